@@ -1,0 +1,17 @@
+pub mod Bools
+pub mod BitLaws
+pub mod FourBytes
+pub mod Lawful
+pub mod FieldLaws
+pub mod Taken
+pub mod LoopLaws
+pub mod PlacesLaws
+pub mod InsideLaws
+pub mod PayloadLaws
+pub mod Spelt
+pub mod Back
+pub mod PutLaws
+pub mod PackedLaws
+pub mod Exact
+pub mod Copied
+pub mod Signed

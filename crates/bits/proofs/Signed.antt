@@ -1,0 +1,55 @@
+-- Signed numbers over the width: a value of small magnitude goes through the bits unchanged, and so do sums, differences and negations.
+-- Assumes nothing.
+use Prim.Native.Nat.{ℕ, suc, zero, _+_, _-_, _<_, _≤_, _^_}
+use mathlib.Core.Path.{_≡_, refl}
+use mathlib.Core.Bool.{Bool, true, false, cond}
+use native.Mathlib.Omega.{arith}
+use lib.IntN.{ℤ, pos, negsuc, negℤ, subℕ, _+ℤ_, _-ℤ_, natAbs}
+use lib.Signed.{mag}
+use lib.Dec.{ltb}
+use mir.Syntax.{Width}
+use mir.Val.{SFits, hbits, toZ, ofZ}
+use mir.ValLaws.{toZ-ofZ}
+
+mag-le : (z : ℤ) → mag z ≤ natAbs z
+mag-le (pos n) = omega arith
+mag-le (negsuc n) = omega arith
+
+abs-cond : (b : Bool) (x y k : ℕ) → suc x ≤ k → y ≤ k → natAbs (cond b (negsuc x) (pos y)) ≤ k
+abs-cond true x y k h g = h
+abs-cond false x y k h g = g
+
+abs-sub : (x y m n : ℕ) → x ≤ m → y ≤ n → 0 < y → natAbs (subℕ x y) ≤ m + n
+abs-sub x y m n h g p = abs-cond (ltb x y) (y - suc x) (x - y) (m + n) (omega arith) (omega arith)
+
+pub abs-add : (a b : ℤ) (m n : ℕ) → natAbs a ≤ m → natAbs b ≤ n → natAbs (a +ℤ b) ≤ m + n
+abs-add (pos a) (pos b) m n h g = omega arith
+abs-add (pos a) (negsuc b) m n h g = abs-sub a (suc b) m n h g (omega arith)
+abs-add (negsuc a) (pos b) m n h g = let e : natAbs (subℕ b (suc a)) ≤ n + m = abs-sub b (suc a) n m g h (omega arith) in omega arith
+abs-add (negsuc a) (negsuc b) m n h g = omega arith
+
+pub abs-neg : (a : ℤ) → natAbs (negℤ a) ≡ natAbs a
+abs-neg (pos zero) = refl
+abs-neg (pos (suc n)) = refl
+abs-neg (negsuc n) = refl
+
+-- a value with a small magnitude fits, and goes through the bits unchanged
+pub fits : {w : Width} {z : ℤ} (k : ℕ) → natAbs z ≤ k → k < 2 ^ hbits w → SFits w z
+fits {w} {z} k h g = record { sfits = omega (arith, mag-le z) }
+
+-- the code's own sum, whose operands went through the bits
+pub sum-fits : (w : Width) {a b : ℤ} (m n : ℕ) → SFits w a → SFits w b → natAbs a ≤ m → natAbs b ≤ n → m + n < 2 ^ hbits w → SFits w (toZ w (ofZ w a) +ℤ toZ w (ofZ w b))
+sum-fits w {a} {b} m n fa fb h g k = rw (toZ-ofZ w a fa, toZ-ofZ w b fb) (fits (m + n) (abs-add a b m n h g) k)
+
+pub sum-is : (w : Width) {a b : ℤ} (m n : ℕ) → SFits w a → SFits w b → natAbs a ≤ m → natAbs b ≤ n → m + n < 2 ^ hbits w → toZ w (ofZ w (toZ w (ofZ w a) +ℤ toZ w (ofZ w b))) ≡ a +ℤ b
+sum-is w {a} {b} m n fa fb h g k = rw (toZ-ofZ w a fa, toZ-ofZ w b fb) (toZ-ofZ w (a +ℤ b) (fits (m + n) (abs-add a b m n h g) k))
+
+pub diff-fits : (w : Width) {a b : ℤ} (m n : ℕ) → SFits w a → SFits w b → natAbs a ≤ m → natAbs b ≤ n → m + n < 2 ^ hbits w → SFits w (toZ w (ofZ w a) -ℤ toZ w (ofZ w b))
+diff-fits w {a} {b} m n fa fb h g k = rw (toZ-ofZ w a fa, toZ-ofZ w b fb) (fits (m + n) (abs-add a (negℤ b) m n h (rw abs-neg g)) k)
+
+pub diff-is : (w : Width) {a b : ℤ} (m n : ℕ) → SFits w a → SFits w b → natAbs a ≤ m → natAbs b ≤ n → m + n < 2 ^ hbits w → toZ w (ofZ w (toZ w (ofZ w a) -ℤ toZ w (ofZ w b))) ≡ a -ℤ b
+diff-is w {a} {b} m n fa fb h g k = rw (toZ-ofZ w a fa, toZ-ofZ w b fb) (toZ-ofZ w (a -ℤ b) (fits (m + n) (abs-add a (negℤ b) m n h (rw abs-neg g)) k))
+
+-- a small value goes through the bits unchanged
+pub thru : (w : Width) {z : ℤ} (k : ℕ) → natAbs z ≤ k → k < 2 ^ hbits w → toZ w (ofZ w z) ≡ z
+thru w {z} k h g = toZ-ofZ w z (fits k h g)

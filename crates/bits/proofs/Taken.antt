@@ -1,0 +1,27 @@
+-- What an answer of the code says once it is taken apart: for the proofs of functions that read a field and go on.
+-- Assumes nothing.
+use Prim.Native.Nat.{ℕ, _+_, _*_, _%_, _<_, _≤_, _^_}
+use mathlib.Core.Path.{_≡_, sym, _∙_, ap}
+use mathlib.Core.List.{List}
+use native.Mathlib.Omega.{arith}
+use Rattle.bits.specs.Reader.{Answer, got, refused}
+use Rattle.bits.specs.Field.{field}
+use Rattle.bits.specs.Answers.{fieldAnswer, endedAnswer}
+use Rattle.bits.specs.declared.Field.{Field}
+use Rattle.bits.specs.declared.Ended.{Ended}
+use Rattle.bits.proofs.BitLaws.{bitsFrom-lt}
+use Rattle.bits.proofs.FieldLaws.{field-taken}
+
+-- the answer, by the variant that it is
+pub answered : {r q : Field} {x : Answer ℕ} → fieldAnswer r ≡ x → r ≡ q → x ≡ fieldAnswer q
+answered e p = sym e ∙ ap fieldAnswer p
+
+pub ended-is : {A : Type 0} (a : A) {r q : Ended} {x : Answer A} → endedAnswer r a ≡ x → r ≡ q → x ≡ endedAnswer q a
+ended-is a e p = sym e ∙ ap (λ (y : Ended). endedAnswer y a) p
+
+-- a field that was read is below 2 ^ n, and lies before the end
+pub field-below : (n : ℕ) (s : List ℕ) (at end v next : ℕ) → field n s at end ≡ got v next → v < 2 ^ n
+field-below n s at end v next e = let w = field-taken n s at end next v e in rw (w .1) (bitsFrom-lt s at n)
+
+pub field-next : (n : ℕ) (s : List ℕ) (at end v next : ℕ) → field n s at end ≡ got v next → (next ≡ at + n) × (next ≤ end)
+field-next n s at end v next e = let w = field-taken n s at end next v e in (w .2, omega arith)

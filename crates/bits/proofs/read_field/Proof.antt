@@ -1,0 +1,27 @@
+use native.Mathlib.Omega.{arith}
+use mathlib.Core.Path.{_≡_, sym, ap}
+use Rattle.bits.proofs.FieldLaws.{is-field, is-short}
+use borrow.Author.Needs.{needs}
+use Rattle.bits.proofs.read_field.Statement.{statement}
+use Rattle.bits.proofs.read_field.Tie as tie
+use Rattle.bits.proofs.read_field.Reads as reads
+use Rattle.bits.proofs.read_field.Lts as lts
+use Rattle.bits.proofs.bits_at.Reads as bits-at-reads
+
+returns : tie.Need-returns
+returns c = is-short _ _ _ _ (omega arith)
+
+returns-2 : tie.Need-returns-2
+returns-2 c = is-short _ _ _ _ (omega arith)
+
+bits-at-requires : tie.Need-bits-at-requires
+bits-at-requires c κs = search needs
+
+add-t6 : tie.Need-add-t6
+add-t6 c = search needs
+
+returns-3 : tie.Need-returns-3
+returns-3 c = is-field _ _ _ _ (omega arith) (c .bits-at .ensures)
+
+pub read-field-spec : {M : Type 1} → statement M
+read-field-spec = tie.close (tie.spec returns returns-2 bits-at-requires add-t6 returns-3)

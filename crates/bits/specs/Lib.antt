@@ -1,0 +1,11 @@
+pub mod Bits
+pub mod Reader
+pub mod Field
+pub mod Loop
+pub mod Places
+pub mod Inside
+pub mod Payload
+pub mod Pieces
+pub mod Packed
+pub mod Writable
+pub mod Answers

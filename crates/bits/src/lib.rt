@@ -1,0 +1,67 @@
+// Bits of a byte slice, most significant first: fields read, and pieces of bits put.
+ghost use mathlib.Core.Path.{_≡_};
+ghost use Prim.Native.Nat.{_*_, _<_, _≤_};
+ghost use lib.ListN.{length, getD};
+ghost use Rattle.bits.specs.Bits.{bitsFrom};
+ghost use Rattle.bits.specs.Field.{field};
+ghost use Rattle.bits.specs.Answers.{fieldAnswer, passedOn};
+
+pub mod write;
+
+// What reading a field or a word finds: its value and the next place, or a refusal and the place of the field judged.
+pub enum Field {
+    Got(u32, usize),
+    Refused(u8, usize),
+}
+
+// How a reading into a lent array ends: the next place, or a refusal and the place of the field judged.
+pub enum Ended {
+    At(usize),
+    Refused(u8, usize),
+}
+
+// The refusal of a field, as that of a reading into an array.
+pub fn passed_on(f: Field) -> Ended
+    ensures { λ r. ⌜ r ≡ passedOn f ⌝ }
+{
+    match f {
+        Field::Got(_, next) => Ended::At(next),
+        Field::Refused(number, place) => Ended::Refused(number, place),
+    }
+}
+
+// A byte, or 0 past the end.
+fn byte(s: &[u8], i: usize) -> u64
+    ensures { λ r. ⌜ (r ≡ getD (now (s .entry)) i 0) × (r < 256) ⌝ }
+{
+    if i < s.len() {
+        return s[i] as u64;
+    }
+    0
+}
+
+// The number that n bits from a place are, by four bytes at once.
+pub fn bits_at(s: &[u8], at: usize, n: usize) -> u32
+    requires { ⌜ n ≤ 20 ⌝ }
+    ensures { λ r. ⌜ r ≡ bitsFrom (now (s .entry)) at n ⌝ }
+{
+    let i = at / 8;
+    let r = at % 8;
+    let w = ((byte(s, i) * 256 + byte(s, i + 1)) * 256 + byte(s, i + 2)) * 256 + byte(s, i + 3);
+    let m = 1u64 << n;
+    ((w >> (32 - (r + n))) % m) as u32
+}
+
+// A field of n bits that has to lie wholly before the end.
+pub fn read_field(s: &[u8], at: usize, end: usize, n: usize) -> Field
+    requires { ⌜ (end ≤ 8 * length (now s)) × (n ≤ 20) ⌝ }
+    ensures { λ r. ⌜ fieldAnswer r ≡ field n (now (s .entry)) at end ⌝ }
+{
+    if end < at {
+        return Field::Refused(10, at);
+    }
+    if end - at < n {
+        return Field::Refused(10, at);
+    }
+    Field::Got(bits_at(s, at, n), at + n)
+}

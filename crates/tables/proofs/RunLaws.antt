@@ -1,0 +1,54 @@
+-- Runs of the lists of all words and lengths: how long they are, and that no length is above 20.
+-- Assumes nothing.
+use Prim.Native.Nat.{ℕ, zero, suc, _+_, _-_, _<_, _≤_}
+use mathlib.Core.Path.{_≡_, refl}
+use mathlib.Core.List.{List, [], _∷_}
+use mathlib.Core.Bool.{Bool, true, _&&_}
+use native.Mathlib.Omega.{arith}
+use native.Mathlib.Nat.{not-suc-le-zero}
+use lib.Dec.{T, leb, leb→le}
+use lib.ListN.{length, getD, take, drop, length-take, length-drop}
+use lib.Seq.{getD-take, getD-drop}
+use Rattle.bits.proofs.Bools.{and-left, and-right}
+use Rattle.words.specs.Asked.{Usable}
+use Rattle.tables.specs.Words.{allCodes, allLens}
+use Rattle.tables.specs.Tables.{run}
+
+pub codes-count : length allCodes ≡ 1604
+unfolding allCodes
+codes-count = refl
+
+pub lens-count : length allLens ≡ 1604
+unfolding allLens
+lens-count = refl
+
+-- each is at most n
+abbrev allLe : ℕ → List ℕ → Bool
+allLe n [] = true
+allLe n (x ∷ xs) = leb x n && allLe n xs
+
+all-at : (n : ℕ) (xs : List ℕ) → T (allLe n xs) → (i : ℕ) → i < length xs → getD xs i 0 ≤ n
+all-at n [] t i h = absurd (not-suc-le-zero h)
+all-at n (x ∷ xs) t zero h = leb→le x n (and-left (leb x n) (allLe n xs) t)
+all-at n (x ∷ xs) t (suc i) h = all-at n xs (and-right (leb x n) (allLe n xs) t) i (omega arith)
+
+narrow : T (allLe 20 allLens)
+unfolding allLens
+narrow = tt
+
+run-length : (xs : List ℕ) (first count : ℕ) → first + count ≤ length xs → length (run xs first count) ≡ count
+run-length xs first count h = simp (length-take, length-drop) (omega arith)
+
+run-at : (xs : List ℕ) (first count i : ℕ) → i < count → getD (run xs first count) i 0 ≡ getD xs (first + i) 0
+run-at xs first count i h = rw (getD-take, getD-drop)
+
+-- the code may read any run
+pub run-usable : (first count : ℕ) → first + count ≤ 1604 → Usable (run allCodes first count) (run allLens first count)
+run-usable first count h =
+    let c = run-length allCodes first count (omega (arith, codes-count)) in
+    let l = run-length allLens first count (omega (arith, lens-count)) in
+    record {
+      same = omega arith;
+      few = omega arith;
+      narrow = λ i g. rw (run-at allLens first count i (omega arith)) (all-at 20 allLens narrow (first + i) (omega (arith, lens-count)));
+    }

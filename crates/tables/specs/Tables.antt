@@ -1,0 +1,39 @@
+-- A table is a run of entries of the list of all words, and of the list of all lengths.
+use Prim.Native.Nat.{ℕ}
+use mathlib.Core.Path.{_≡_}
+use mathlib.Core.List.{List}
+use mathlib.Core.Bool.{Bool}
+use lib.ListN.{take, drop}
+use Rattle.bits.specs.Reader.{Reader}
+use Rattle.words.specs.Words.{word}
+use Rattle.words.specs.Table.{complete}
+use Rattle.tables.specs.Words.{allCodes, allLens}
+
+pub record Table : Type 0 where
+  pub first : ℕ
+  pub count : ℕ
+
+abbrev pub table : ℕ → ℕ → Table
+table first count = record { first = first; count = count }
+
+-- count elements of a list, from the first on
+abbrev pub run : List ℕ → ℕ → ℕ → List ℕ
+run xs first count = take count (drop first xs)
+
+abbrev pub codesOf : Table → List ℕ
+codesOf t = run allCodes (t .first) (t .count)
+
+abbrev pub lensOf : Table → List ℕ
+lensOf t = run allLens (t .first) (t .count)
+
+-- the word of a table at a place
+abbrev pub wordOf : Table → Reader ℕ
+wordOf t = word (codesOf t) (lensOf t)
+
+-- what is lent to every reader of words
+abbrev pub Tables : List ℕ → List ℕ → Type 0
+Tables codes lens = (codes ≡ allCodes) × (lens ≡ allLens)
+
+-- the rule of a table: the prefix rule, and the Kraft sum 1
+abbrev pub ruled : Table → Bool
+ruled t = complete (codesOf t) (lensOf t)

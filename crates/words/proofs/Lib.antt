@@ -1,0 +1,9 @@
+pub mod CountLaws
+pub mod PrefixLaws
+pub mod FitLaws
+pub mod ScanAnswers
+pub mod ScanLaws
+pub mod WordLaws
+pub mod CompleteLaws
+pub mod EscapeLaws
+pub mod Examples

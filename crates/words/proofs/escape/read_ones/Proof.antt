@@ -1,0 +1,83 @@
+use Prim.Native.Nat.{_+_, _-_, _≤_}
+use mathlib.Core.Path.{_≡_, refl, sym, _∙_}
+use native.Mathlib.Omega.{arith}
+use borrow.Author.Needs.{needs}
+use Rattle.bits.proofs.Taken.{answered}
+use Rattle.words.specs.Escape.{ones}
+use Rattle.words.proofs.EscapeLaws.{ones-short, ones-last, ones-more, ones-nine}
+use Rattle.words.proofs.escape.read_ones.Statement.{statement}
+use Rattle.words.proofs.escape.read_ones.Tie as tie
+use Rattle.words.proofs.escape.read_ones.Reads as reads
+use Rattle.words.proofs.escape.read_ones.Lts as lts
+use Rattle.bits.proofs.read_field.Reads as read-field-reads
+
+abbrev Inv-loop : tie.InvT-loop
+Inv-loop s at end n₀ place₀ n place = (n ≤ 9) × (ones 9 0 s at end ≡ ones (9 - n) n s place end)
+
+abbrev μ-loop : tie.MeasureT-loop
+μ-loop s at end n₀ place₀ n place = 9 - n
+
+loop-holds : tie.Need-loop-holds Inv-loop μ-loop
+loop-holds c = (omega arith, refl)
+
+read-field-requires : tie.Need-read-field-requires Inv-loop μ-loop
+read-field-requires c κs = search needs
+
+enum-known-f : tie.Need-enum-known-f Inv-loop μ-loop
+enum-known-f c = search needs
+
+enum-told : tie.Need-enum-told Inv-loop μ-loop
+enum-told c = search needs
+
+returns : tie.Need-returns Inv-loop μ-loop
+returns c =
+    let l = c .before .before .before .before .loop in
+    let x = c .before .before .before .before .before .before .args in
+    let e = answered (c .before .before .read-field .ensures) (c .enum-told .given .1) in
+    c .before .before .read-field .ensures ∙ e
+    ∙ sym (l .inv .1 ∙ ones-short (l .n) (x .s .now) (l .place) (x .end) _ _ (c .before .before .before .loop-test .taken) e)
+
+returns-2 : tie.Need-returns-2 Inv-loop μ-loop
+returns-2 c =
+    let f = c .before .before in
+    let l = f .before .before .before .before .loop in
+    let x = f .before .before .before .before .before .before .args in
+    let e = answered (f .before .before .read-field .ensures) (f .f .given .1) in
+    sym (l .inv .1 ∙ ones-last (l .n) (x .s .now) (l .place) (x .end) _ _ (f .before .before .before .loop-test .taken) e (c .if1 .taken))
+
+add-n : tie.Need-add-n Inv-loop μ-loop
+add-n c = search needs
+
+loop-less : tie.Need-loop-less Inv-loop μ-loop
+loop-less c = search needs
+
+loop-again : tie.Need-loop-again Inv-loop μ-loop
+loop-again c =
+    let f = c .before .before in
+    let l = f .before .before .before .before .loop in
+    let x = f .before .before .before .before .before .before .args in
+    let e = answered (f .before .before .read-field .ensures) (f .f .given .1) in
+    (omega arith, l .inv .1 ∙ ones-more (l .n) (x .s .now) (l .place) (x .end) _ _ (f .before .before .before .loop-test .taken) e (c .if1 .left))
+
+returns-3 : tie.Need-returns-3 Inv-loop μ-loop
+returns-3 c =
+    let l = c .before .loop in
+    let x = c .before .before .before .args in
+    sym (l .inv .1 ∙ ones-nine (l .n) (x .s .now) (l .place) (x .end) (c .loop-test .left))
+
+pub read-ones-spec : {M : Type 1} → statement M
+read-ones-spec =
+    tie.close
+    (tie.spec
+    Inv-loop
+    μ-loop
+    loop-holds
+    read-field-requires
+    enum-known-f
+    enum-told
+    returns
+    returns-2
+    add-n
+    loop-less
+    loop-again
+    returns-3)

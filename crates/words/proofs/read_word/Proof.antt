@@ -1,0 +1,146 @@
+use Prim.Native.Nat.{ℕ, _≤_, _<_, _+_, _*_, _-_, _^_, min}
+use mathlib.Core.Path.{_≡_, refl, sym, _∙_}
+use mathlib.Core.Logic.{⊎-elim}
+use native.Mathlib.Omega.{arith}
+use borrow.Author.Needs.{needs}
+use lib.ListN.{length, drop, getD}
+use Rattle.words.specs.Words.{scan, word}
+use Rattle.words.proofs.ScanLaws.{scan-short, scan-none, turn-found, turn-cut, turn-neither}
+use Rattle.words.proofs.read_word.Statement.{statement}
+use Rattle.words.proofs.read_word.Tie as tie
+use Rattle.words.proofs.read_word.Reads as reads
+use Rattle.words.proofs.read_word.Lts as lts
+use Rattle.words.proofs.first_bits.Reads as first-bits-reads
+use Rattle.words.proofs.judge.Reads as judge-reads
+
+abbrev Inv-loop : tie.InvT-loop
+Inv-loop s at end codes lens w short₀ i₀ short i =
+    (i ≤ length lens) × (word codes lens s at end ≡ scan (drop i codes) (drop i lens) i short s at end)
+
+abbrev μ-loop : tie.MeasureT-loop
+μ-loop s at end codes lens w short₀ i₀ short i = length lens - i
+
+first-bits-requires : tie.Need-first-bits-requires Inv-loop μ-loop
+first-bits-requires c κs = search needs
+
+loop-holds : tie.Need-loop-holds Inv-loop μ-loop
+unfolding word
+loop-holds c = (search needs, refl)
+
+mul-judge : tie.Need-mul-judge Inv-loop μ-loop
+mul-judge c = search needs
+
+shared-slice-read-judge : tie.Need-shared-slice-read-judge Inv-loop μ-loop
+shared-slice-read-judge c = search needs
+
+shared-slice-read-judge-2 : tie.Need-shared-slice-read-judge-2 Inv-loop μ-loop
+shared-slice-read-judge-2 c = search needs
+
+judge-requires : tie.Need-judge-requires Inv-loop μ-loop
+judge-requires c κs =
+    let a = c .before .before .before .before .before .before .before .before in
+    (omega arith, a .pre .1 .narrow (c .before .before .before .loop .i) (omega arith))
+
+enum-told : tie.Need-enum-told Inv-loop μ-loop
+enum-told c = search needs
+
+cast-t16 : tie.Need-cast-t16 Inv-loop μ-loop
+cast-t16 c = search needs
+
+shared-slice-read-t18 : tie.Need-shared-slice-read-t18 Inv-loop μ-loop
+shared-slice-read-t18 c = search needs
+
+cast-t19 : tie.Need-cast-t19 Inv-loop μ-loop
+cast-t19 c = omega (arith, c .shared-slice-known6 .given (c .before .before .before .before .before .before .before .loop .i))
+
+add-t20 : tie.Need-add-t20 Inv-loop μ-loop
+add-t20 c =
+    let j = c .before .before .before in
+    let l = j .before .before .before in
+    let i = l .before .loop .i in
+    let b = l .before .before in
+    let a = b .before .before .before .before in
+    let x = a .args in
+    let hc : i < length (x .codes .now) = omega arith in
+    let narrow = a .pre .1 .narrow i (l .loop-test .taken) in
+    let w = turn-found (x .codes .now) (x .lens .now) (x .s .now) (x .at) (x .end) i (l .before .loop .short) hc (l .loop-test .taken) narrow (b .first-bits .ensures .0) (b .first-bits .ensures .1) (j .judge .ensures) (c .before .enum-told .given .1) in
+    omega arith
+
+returns : tie.Need-returns Inv-loop μ-loop
+returns c =
+    let j = c .before .before .before in
+    let l = j .before .before .before in
+    let i = l .before .loop .i in
+    let b = l .before .before in
+    let a = b .before .before .before .before in
+    let x = a .args in
+    let hc : i < length (x .codes .now) = omega arith in
+    let narrow = a .pre .1 .narrow i (l .loop-test .taken) in
+    turn-found (x .codes .now) (x .lens .now) (x .s .now) (x .at) (x .end) i (l .before .loop .short) hc (l .loop-test .taken) narrow (b .first-bits .ensures .0) (b .first-bits .ensures .1) (j .judge .ensures) (c .before .enum-told .given .1) .0 ∙ sym (l .before .loop .inv .1)
+
+enum-told-2 : tie.Need-enum-told-2 Inv-loop μ-loop
+enum-told-2 c = search needs
+
+enum-told-3 : tie.Need-enum-told-3 Inv-loop μ-loop
+enum-told-3 c = search needs
+
+add-i : tie.Need-add-i Inv-loop μ-loop
+add-i c = search needs
+
+loop-less : tie.Need-loop-less Inv-loop μ-loop
+loop-less c = search needs
+
+loop-again : tie.Need-loop-again Inv-loop μ-loop
+loop-again c =
+    let j = c .before in
+    let l = j .before .before .before in
+    let i = l .before .loop .i in
+    let b = l .before .before in
+    let a = b .before .before .before .before in
+    let x = a .args in
+    let hc : i < length (x .codes .now) = omega arith in
+    let narrow = a .pre .1 .narrow i (l .loop-test .taken) in (
+      omega arith,
+      ⊎-elim
+          (λ w. rw (w .2) (l .before .loop .inv .1 ∙ turn-cut (x .codes .now) (x .lens .now) (x .s .now) (x .at) (x .end) i (l .before .loop .short) hc (l .loop-test .taken) narrow (b .first-bits .ensures .0) (b .first-bits .ensures .1) (j .judge .ensures) (w .1 .given .1)))
+          (λ w. rw (w .2) (l .before .loop .inv .1 ∙ turn-neither (x .codes .now) (x .lens .now) (x .s .now) (x .at) (x .end) i (l .before .loop .short) hc (l .loop-test .taken) narrow (b .first-bits .ensures .0) (b .first-bits .ensures .1) (j .judge .ensures) (w .1 .given .1)))
+          (c .match .came),
+    )
+
+returns-2 : tie.Need-returns-2 Inv-loop μ-loop
+returns-2 c =
+    let l = c .before .before .loop in
+    let x = c .before .before .before .before .before .before .before .args in
+    scan-short (x .codes .now) (x .lens .now) (x .s .now) (x .at) (x .end) (l .i) (l .short) (c .if1 .taken) (omega arith) ∙ sym (l .inv .1)
+
+returns-3 : tie.Need-returns-3 Inv-loop μ-loop
+returns-3 c =
+    let l = c .before .before .loop in
+    let x = c .before .before .before .before .before .before .before .args in
+    scan-none (x .codes .now) (x .lens .now) (x .s .now) (x .at) (x .end) (l .i) (l .short) (c .if1 .left) (omega arith) ∙ sym (l .inv .1)
+
+pub read-word-spec : {M : Type 1} → statement M
+read-word-spec =
+    tie.close
+    (tie.spec
+    Inv-loop
+    μ-loop
+    first-bits-requires
+    loop-holds
+    mul-judge
+    shared-slice-read-judge
+    shared-slice-read-judge-2
+    judge-requires
+    enum-told
+    cast-t16
+    shared-slice-read-t18
+    cast-t19
+    add-t20
+    returns
+    enum-told-2
+    enum-told-3
+    add-i
+    loop-less
+    loop-again
+    returns-2
+    returns-3)

@@ -1,0 +1,5 @@
+pub mod Words
+pub mod Table
+pub mod Asked
+pub mod Judge
+pub mod Escape
