@@ -1,7 +1,7 @@
 -- Spelled, then read: where the bits are a value's spelling, the value is read. Proved of each primitive, and kept by the ways of putting
 -- readers together.
 -- Assumes nothing.
-use Prim.Native.Nat.{ℕ, zero, suc, _+_, _-_, _<_, _≤_}
+use Prim.Native.Nat.{ℕ, zero, suc, _+_, _-_, _≤_}
 use mathlib.Core.Path.{_≡_, refl, sym, _∙_, ap, subst}
 use mathlib.Core.List.{List, [], _∷_, _++_, append-assoc}
 use mathlib.Core.Bool.{Bool, true, false}
@@ -9,7 +9,6 @@ use native.Mathlib.Omega.{arith}
 use native.Mathlib.Nat.{add-zero, add-assoc}
 use borrow.Author.Tests.{le-leb}
 use lib.ListN.{length}
-use Rattle.bits.specs.Bits.{bitsFrom}
 use Rattle.bits.specs.Reader.{got, Reader, give, _>>=_, pick, expecting}
 use Rattle.bits.specs.Field.{field}
 use Rattle.bits.specs.Loop.{counted, more, listed}

@@ -4,7 +4,7 @@ use Prim.Native.Nat.{ℕ, zero, suc, _+_, _-_, _<_, _≤_}
 use mathlib.Core.Path.{_≡_}
 use mathlib.Core.List.{List, [], _∷_, _++_}
 use native.Mathlib.Omega.{arith}
-use Rattle.bits.specs.Reader.{got, refused, Reader, give, _>>=_}
+use Rattle.bits.specs.Reader.{got, refused, Reader, give}
 use Rattle.bits.specs.Loop.{counted, more, listed}
 use Rattle.bits.proofs.Lawful.{Lawful, bind-lawful, give-lawful}
 

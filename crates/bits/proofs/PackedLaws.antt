@@ -1,13 +1,13 @@
 -- The bytes of a spelling: they hold it, they are bytes, the bits past it are 0, and no other bytes are so.
 -- Assumes nothing.
 use Prim.Native.Nat.{ℕ, zero, suc, _+_, _-_, _*_, _/_, _%_, _<_, _≤_, _^_}
-use mathlib.Core.Path.{_≡_, refl, sym, _∙_, ap}
+use mathlib.Core.Path.{_≡_, sym, _∙_, ap}
 use mathlib.Core.Logic.{inr}
 use mathlib.Core.List.{List, [], _∷_, _++_}
 use native.Mathlib.Omega.{arith}
 use native.Mathlib.Nat.{zero-div}
 use native.Mathlib.Decide.{decLt, ℕ-discrete}
-use lib.ListN.{length, getD, set, take, replicate, length-replicate, getD-replicate, List·getD-eq-default, replicate-append-replicate}
+use lib.ListN.{length, getD, take, replicate, length-replicate, getD-replicate, List·getD-eq-default, replicate-append-replicate}
 use lib.Seq.{getD-set-same, getD-set-other, set-out, ext-getD, take-at}
 use Rattle.bits.specs.Bits.{bitAt}
 use Rattle.bits.specs.Pieces.{Piece, total, Holds}

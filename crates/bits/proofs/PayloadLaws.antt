@@ -1,15 +1,15 @@
 -- Whole payloads: what was accepted left at most 7 bits, and a payload that is cut so that fewer bits are there than it used is 10.
 -- Assumes nothing.
-use Prim.Native.Nat.{ℕ, _+_, _*_, _-_, _/_, _%_, _<_, _≤_}
+use Prim.Native.Nat.{ℕ, _*_, _-_, _/_, _<_, _≤_}
 use mathlib.Core.Path.{_≡_, _∙_, ap, ap₂}
 use mathlib.Core.List.{List}
 use native.Mathlib.Omega.{arith}
 use native.Mathlib.Decide.{decLe}
 use borrow.Author.Tests.{le-leb, lt-leb}
-use lib.ListN.{length, take, getD}
+use lib.ListN.{length, take}
 use lib.Seq.{getD-take, length-take-le}
 use Rattle.bits.specs.Bits.{bitAt}
-use Rattle.bits.specs.Reader.{Answer, got, refused, Reader, after}
+use Rattle.bits.specs.Reader.{got, refused, Reader}
 use Rattle.bits.specs.Payload.{ended, whole}
 use Rattle.bits.proofs.Lawful.{Lawful, never, split}
 

@@ -5,19 +5,17 @@ use mathlib.Core.Path.{_≡_, refl, sym, _∙_, ap, subst}
 use mathlib.Core.Logic.{_≢_, _⊎_, inl, inr}
 use mathlib.Core.List.{List, [], _∷_, _++_}
 use native.Mathlib.Omega.{arith}
-use native.Mathlib.Decide.{decLe, decLt, ℕ-discrete}
-use native.Mathlib.Nat.{add-mul, mod-lt, pow-suc, add-zero, add-assoc, not-suc-le-zero}
+use native.Mathlib.Decide.{decLt, ℕ-discrete}
+use native.Mathlib.Nat.{add-mul, mod-lt, pow-suc, add-zero, add-assoc}
 use lib.Arith.{digits-lt}
 use native.Mathlib.Numerals.{add-one}
 use lib.Pow.{pow-pos, pow-mono, shr-lt, pow-add, shr-shr, high, low, mod-mod-pow, split as pow-split, field as pow-field}
-use lib.Dec.{T}
-use mathlib.Core.Bool.{true}
-use lib.ListN.{length, getD, set, length-set, replicate, length-replicate, getD-replicate, List·getD-eq-default, List·getD-append, replicate-append-replicate}
-use lib.Seq.{set-append-left, getD-set-same, getD-set-other, set-out, ext-getD}
+use lib.ListN.{length, getD, length-set, List·getD-append}
+use lib.Seq.{set-append-left, getD-set-same, getD-set-other, set-out}
 use Rattle.bits.specs.Bits.{bitsFrom, bitAt}
-use Rattle.bits.proofs.BitLaws.{Same, bitsFrom-lt, bitAt-lt, bitsFrom-same}
+use Rattle.bits.proofs.BitLaws.{bitsFrom-lt, bitsFrom-same}
 use Rattle.bits.specs.Pieces.{Piece, total, Holds}
-use Rattle.bits.specs.Packed.{replaced, setBit, put, putAll, packed, bytesFor}
+use Rattle.bits.specs.Packed.{replaced, setBit, put, putAll}
 
 replaced-is : (x k b : ℕ) → replaced x k b ≡ (x / 2 ^ k / 2 * 2 + b) * 2 ^ k + x % 2 ^ k
 unfolding replaced

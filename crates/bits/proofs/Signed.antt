@@ -4,7 +4,7 @@ use Prim.Native.Nat.{ℕ, suc, zero, _+_, _-_, _<_, _≤_, _^_}
 use mathlib.Core.Path.{_≡_, refl}
 use mathlib.Core.Bool.{Bool, true, false, cond}
 use native.Mathlib.Omega.{arith}
-use lib.IntN.{ℤ, pos, negsuc, negℤ, subℕ, _+ℤ_, _-ℤ_, natAbs}
+use lib.IntN.{ℤ, pos, negsuc, negℤ, subℕ, _+ℤ_, _-ℤ_, natAbs, +ℤ-idl}
 use lib.Signed.{mag}
 use lib.Dec.{ltb}
 use mir.Syntax.{Width}
@@ -33,23 +33,32 @@ abs-neg (pos zero) = refl
 abs-neg (pos (suc n)) = refl
 abs-neg (negsuc n) = refl
 
--- a value with a small magnitude fits, and goes through the bits unchanged
+-- a value of small magnitude fits
 pub fits : {w : Width} {z : ℤ} (k : ℕ) → natAbs z ≤ k → k < 2 ^ hbits w → SFits w z
 fits {w} {z} k h g = record { sfits = omega (arith, mag-le z) }
 
--- the code's own sum, whose operands went through the bits
-pub sum-fits : (w : Width) {a b : ℤ} (m n : ℕ) → SFits w a → SFits w b → natAbs a ≤ m → natAbs b ≤ n → m + n < 2 ^ hbits w → SFits w (toZ w (ofZ w a) +ℤ toZ w (ofZ w b))
-sum-fits w {a} {b} m n fa fb h g k = rw (toZ-ofZ w a fa, toZ-ofZ w b fb) (fits (m + n) (abs-add a b m n h g) k)
+module _ (w : Width) where
+  -- it goes through the bits unchanged
+  pub thru : {z : ℤ} (k : ℕ) → natAbs z ≤ k → k < 2 ^ hbits w → toZ w (ofZ w z) ≡ z
+  thru {z} k h g = toZ-ofZ w z (fits k h g)
 
-pub sum-is : (w : Width) {a b : ℤ} (m n : ℕ) → SFits w a → SFits w b → natAbs a ≤ m → natAbs b ≤ n → m + n < 2 ^ hbits w → toZ w (ofZ w (toZ w (ofZ w a) +ℤ toZ w (ofZ w b))) ≡ a +ℤ b
-sum-is w {a} {b} m n fa fb h g k = rw (toZ-ofZ w a fa, toZ-ofZ w b fb) (toZ-ofZ w (a +ℤ b) (fits (m + n) (abs-add a b m n h g) k))
+  -- the code's own sum, difference and negation, whose operands went through the bits
+  module _ {a b : ℤ} (m n : ℕ) (fa : SFits w a) (fb : SFits w b) (h : natAbs a ≤ m) (g : natAbs b ≤ n) (k : m + n < 2 ^ hbits w) where
+    pub sum-fits : SFits w (toZ w (ofZ w a) +ℤ toZ w (ofZ w b))
+    sum-fits = rw (toZ-ofZ w a fa, toZ-ofZ w b fb) (fits (m + n) (abs-add a b m n h g) k)
 
-pub diff-fits : (w : Width) {a b : ℤ} (m n : ℕ) → SFits w a → SFits w b → natAbs a ≤ m → natAbs b ≤ n → m + n < 2 ^ hbits w → SFits w (toZ w (ofZ w a) -ℤ toZ w (ofZ w b))
-diff-fits w {a} {b} m n fa fb h g k = rw (toZ-ofZ w a fa, toZ-ofZ w b fb) (fits (m + n) (abs-add a (negℤ b) m n h (rw abs-neg g)) k)
+    pub sum-is : toZ w (ofZ w (toZ w (ofZ w a) +ℤ toZ w (ofZ w b))) ≡ a +ℤ b
+    sum-is = rw (toZ-ofZ w a fa, toZ-ofZ w b fb) (toZ-ofZ w (a +ℤ b) (fits (m + n) (abs-add a b m n h g) k))
 
-pub diff-is : (w : Width) {a b : ℤ} (m n : ℕ) → SFits w a → SFits w b → natAbs a ≤ m → natAbs b ≤ n → m + n < 2 ^ hbits w → toZ w (ofZ w (toZ w (ofZ w a) -ℤ toZ w (ofZ w b))) ≡ a -ℤ b
-diff-is w {a} {b} m n fa fb h g k = rw (toZ-ofZ w a fa, toZ-ofZ w b fb) (toZ-ofZ w (a -ℤ b) (fits (m + n) (abs-add a (negℤ b) m n h (rw abs-neg g)) k))
+    pub diff-fits : SFits w (toZ w (ofZ w a) -ℤ toZ w (ofZ w b))
+    diff-fits = rw (toZ-ofZ w a fa, toZ-ofZ w b fb) (fits (m + n) (abs-add a (negℤ b) m n h (rw abs-neg g)) k)
 
--- a small value goes through the bits unchanged
-pub thru : (w : Width) {z : ℤ} (k : ℕ) → natAbs z ≤ k → k < 2 ^ hbits w → toZ w (ofZ w z) ≡ z
-thru w {z} k h g = toZ-ofZ w z (fits k h g)
+    pub diff-is : toZ w (ofZ w (toZ w (ofZ w a) -ℤ toZ w (ofZ w b))) ≡ a -ℤ b
+    diff-is = rw (toZ-ofZ w a fa, toZ-ofZ w b fb) (toZ-ofZ w (a -ℤ b) (fits (m + n) (abs-add a (negℤ b) m n h (rw abs-neg g)) k))
+
+  module _ {a : ℤ} (m : ℕ) (fa : SFits w a) (h : natAbs a ≤ m) (k : m < 2 ^ hbits w) where
+    pub neg-fits : SFits w (pos 0 -ℤ toZ w (ofZ w a))
+    neg-fits = rw (toZ-ofZ w a fa, +ℤ-idl (negℤ a)) (fits m (rw abs-neg h) k)
+
+    pub neg-is : toZ w (ofZ w (pos 0 -ℤ toZ w (ofZ w a))) ≡ negℤ a
+    neg-is = rw (toZ-ofZ w a fa, +ℤ-idl (negℤ a)) (toZ-ofZ w (negℤ a) (fits m (rw abs-neg h) k))

@@ -1,10 +1,10 @@
 -- What an answer of the code says once it is taken apart: for the proofs of functions that read a field and go on.
 -- Assumes nothing.
-use Prim.Native.Nat.{ℕ, _+_, _*_, _%_, _<_, _≤_, _^_}
+use Prim.Native.Nat.{ℕ, _+_, _<_, _≤_, _^_}
 use mathlib.Core.Path.{_≡_, sym, _∙_, ap}
 use mathlib.Core.List.{List}
 use native.Mathlib.Omega.{arith}
-use Rattle.bits.specs.Reader.{Answer, got, refused}
+use Rattle.bits.specs.Reader.{Answer, got}
 use Rattle.bits.specs.Field.{field}
 use Rattle.bits.specs.Answers.{fieldAnswer, endedAnswer}
 use Rattle.bits.specs.declared.Field.{Field}

@@ -1,5 +1,4 @@
 -- What can be written: reading its own spelling gives it back.
-use Prim.Native.Nat.{ℕ}
 use mathlib.Core.Bool.{Bool, false}
 use mathlib.Core.List.{List}
 use Rattle.bits.specs.Reader.{Answer, got, refused, Reader}

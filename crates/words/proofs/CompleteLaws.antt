@@ -1,6 +1,6 @@
 -- What follows from the one computed test of a table: the prefix rule, the Kraft sum, the reading laws, and that 11 never arises.
 -- Assumes nothing.
-use Prim.Native.Nat.{ℕ, _<_, _≤_, _^_}
+use Prim.Native.Nat.{ℕ, _≤_, _^_}
 use mathlib.Core.Path.{_≡_}
 use mathlib.Core.Bool.{_&&_}
 use mathlib.Core.List.{List}

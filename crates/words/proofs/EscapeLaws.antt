@@ -1,25 +1,25 @@
 -- Laws of the escape: reading, spelled then read, read then spelled, and what a loop of the code cites.
 -- Assumes nothing.
 use Prim.Native.Nat.{ℕ, zero, suc, _+_, _-_, _*_, _<_, _≤_, _^_}
-use mathlib.Core.Path.{_≡_, refl, sym, _∙_, ap, subst}
-use mathlib.Core.Bool.{Bool, true, false}
+use mathlib.Core.Path.{_≡_, refl, _∙_, ap, subst}
+use mathlib.Core.Bool.{false}
 use mathlib.Core.List.{List, [], _∷_, _++_}
 use native.Mathlib.Omega.{arith}
-use native.Mathlib.Nat.{pow-suc, add-zero}
+use native.Mathlib.Nat.{pow-suc}
 use native.Mathlib.Decide.{decLt}
-use lib.Dec.{eqb, ltb}
+use lib.Dec.{eqb}
 use lib.Pow.{pow-mono}
 use borrow.Author.Tests.{eq-eqb, ne-eqb, lt-ltb, le-ltb, eqb-true, eqb-false}
-use Rattle.bits.specs.Reader.{got, refused, Reader, give, refuse, pick, _>>=_}
+use Rattle.bits.specs.Reader.{got, refused, give, pick, _>>=_}
 use Rattle.bits.specs.Field.{field}
 use Rattle.bits.specs.Places.{oneField}
-use Rattle.bits.specs.Pieces.{Piece, piece}
+use Rattle.bits.specs.Pieces.{piece}
 use Rattle.bits.proofs.Lawful.{Lawful, bind-lawful, give-lawful, refuse-lawful, pick-lawful}
 use Rattle.bits.proofs.FieldLaws.{field-lawful}
 use Rattle.bits.proofs.PlacesLaws.{oneField-lawful}
 use Rattle.bits.proofs.Spelt.{Spelt, told, give-spelt, refuse-spelt, bind-spelt, field-spelt, pick-spelt, oneField-spelt, respelt}
-use Rattle.bits.proofs.Back.{Back, give-back, bind-back, field-back, pick-back, oneField-back}
-use Rattle.words.specs.Escape.{ones, magnitude, escape, onesFrom, spellOnes, spellWith, spellEscape}
+use Rattle.bits.proofs.Back.{Back, give-back, bind-back, field-back, oneField-back}
+use Rattle.words.specs.Escape.{ones, magnitude, escape, onesFrom, spellOnes, spellEscape}
 
 ruleset lawfuls = (bind-lawful, field-lawful, give-lawful, refuse-lawful, pick-lawful, oneField-lawful)
 

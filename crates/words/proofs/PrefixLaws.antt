@@ -1,14 +1,14 @@
 -- The prefix rule and the Kraft sum of any table, from the tests that are computed over it: at most one word is a prefix of some bits; and
 -- where the sum is 2 ^ M one always is.
 -- Assumes nothing.
-use Prim.Native.Nat.{ℕ, zero, suc, _+_, _-_, _*_, _/_, _^_, _<_, _≤_, min}
-use mathlib.Core.Path.{_≡_, refl, sym, _∙_, ap, subst}
+use Prim.Native.Nat.{ℕ, zero, suc, _+_, _-_, _*_, _/_, _^_, _<_, _≤_}
+use mathlib.Core.Path.{_≡_, refl, _∙_, ap}
 use mathlib.Core.Bool.{Bool, true, false, not, _&&_, _||_}
 use mathlib.Core.List.{List, [], _∷_}
 use native.Mathlib.Omega.{arith}
 use native.Mathlib.Decide.{decLe, ℕ-discrete}
 use native.Mathlib.Nat.{not-suc-le-zero}
-use lib.Dec.{T, leb, ltb, eqb, leb→le, ltb→lt, eqb→eq, T-not}
+use lib.Dec.{T, leb, ltb, eqb, leb→le, ltb→lt}
 use lib.Pow.{pow-pos, pow-add, shr-shr}
 use lib.Arith.{digits-lt}
 use lib.ListN.{length, getD}

@@ -1,19 +1,18 @@
 -- Laws of the scan of a table, a word at a time, as the code goes.
 -- Assumes nothing.
-use Prim.Native.Nat.{ℕ, zero, suc, _+_, _-_, _*_, _/_, _^_, _<_, _≤_, min}
-use mathlib.Core.Path.{_≡_, refl, sym, _∙_, ap}
-use mathlib.Core.List.{List, [], _∷_}
+use Prim.Native.Nat.{ℕ, _+_, _-_, _<_, _≤_, min}
+use mathlib.Core.Path.{_≡_, refl, sym, _∙_}
+use mathlib.Core.List.{List}
 use mathlib.Core.Bool.{Bool, true, false, _||_, or-true, or-false}
 use native.Mathlib.Omega.{arith}
 use native.Mathlib.Numerals.{add-one}
 use native.Mathlib.Decide.{decLe}
-use native.Mathlib.Nat.{not-suc-le-zero}
-use lib.Dec.{T, leb, ltb, eqb, leb→le}
+use lib.Dec.{leb, eqb}
 use lib.ListN.{length, getD, drop, drop-of-length-le}
-use lib.Seq.{drop-cons, drop-length}
+use lib.Seq.{drop-cons}
 use borrow.Author.Tests.{le-leb, lt-leb, lt-ltb, le-ltb, leb-true}
 use Rattle.bits.specs.Bits.{bitsFrom}
-use Rattle.bits.specs.Reader.{Answer, got, refused, Reader, pick}
+use Rattle.bits.specs.Reader.{got, refused, pick}
 use Rattle.bits.proofs.BitLaws.{bitsFrom-prefix}
 use Rattle.bits.proofs.Bools.{and-both}
 use Rattle.words.specs.Words.{fits, cutOff, scan}

@@ -1,5 +1,4 @@
 use native.Mathlib.Omega.{arith}
-use mathlib.Core.Path.{_≡_, sym, ap}
 use Rattle.bits.proofs.FieldLaws.{is-field, is-short}
 use borrow.Author.Needs.{needs}
 use Rattle.bits.proofs.read_field.Statement.{statement}

@@ -1,9 +1,9 @@
-use Prim.Native.Nat.{ℕ, _≤_, _<_, _+_, _*_, _-_, _^_, min}
+use Prim.Native.Nat.{_≤_, _<_, _-_}
 use mathlib.Core.Path.{_≡_, refl, sym, _∙_}
 use mathlib.Core.Logic.{⊎-elim}
 use native.Mathlib.Omega.{arith}
 use borrow.Author.Needs.{needs}
-use lib.ListN.{length, drop, getD}
+use lib.ListN.{length, drop}
 use Rattle.words.specs.Words.{scan, word}
 use Rattle.words.proofs.ScanLaws.{scan-short, scan-none, turn-found, turn-cut, turn-neither}
 use Rattle.words.proofs.read_word.Statement.{statement}

@@ -1,4 +1,4 @@
-use Prim.Native.Nat.{ℕ, _%_, _*_, _/_, _^_}
+use Prim.Native.Nat.{_%_, _/_, _^_}
 use native.Mathlib.Omega.{arith}
 use Rattle.bits.proofs.FourBytes.{one-shl}
 use Rattle.bits.specs.Packed.{replaced}

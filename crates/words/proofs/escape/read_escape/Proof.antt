@@ -1,5 +1,5 @@
-use Prim.Native.Nat.{_+_, _<_, _≤_, _^_}
-use mathlib.Core.Path.{_≡_, sym}
+use Prim.Native.Nat.{_+_}
+use mathlib.Core.Path.{sym}
 use native.Mathlib.Omega.{arith}
 use lib.Pow.{pow-mono}
 use Rattle.bits.proofs.FourBytes.{one-shl}
