@@ -1,0 +1,122 @@
+//! Bits of a payload, most significant first, up to an end; and words of a code table.
+
+/// A refusal's number.
+pub type Number = u8;
+
+#[derive(Clone)]
+pub struct Bits<'a> {
+    bytes: &'a [u8],
+    pub at: usize,
+    pub end: usize,
+}
+
+impl<'a> Bits<'a> {
+    pub fn new(bytes: &'a [u8]) -> Bits<'a> {
+        Bits { bytes, at: 0, end: 8 * bytes.len() }
+    }
+
+    pub fn left(&self) -> usize {
+        self.end - self.at
+    }
+
+    fn bit(&mut self) -> u32 {
+        let bit = self.bytes[self.at / 8] >> (7 - self.at % 8) & 1;
+        self.at += 1;
+        bit as u32
+    }
+
+    /// A field: 10 where it is not wholly there.
+    pub fn field(&mut self, n: usize) -> Result<u32, Number> {
+        if self.left() < n {
+            return Err(10);
+        }
+        Ok((0..n).fold(0, |value, _| value << 1 | self.bit()))
+    }
+
+    /// A word of a table, its entry.
+    pub fn word(&mut self, table: &Table) -> Result<usize, Number> {
+        let mut node = 0;
+        loop {
+            if let Some(entry) = table.nodes[node].entry {
+                return Ok(entry);
+            }
+            if self.left() == 0 {
+                return Err(10);
+            }
+            match table.nodes[node].next[self.bit() as usize] {
+                Some(next) => node = next,
+                None => return Err(11),
+            }
+        }
+    }
+
+    /// An escape of book 11: N ones, a zero, N + 4 bits.
+    pub fn escape(&mut self) -> Result<u32, Number> {
+        let mut ones = 0;
+        while self.field(1)? == 1 {
+            ones += 1;
+            if ones == 9 {
+                return Err(26);
+            }
+        }
+        Ok((1 << (ones + 4)) + self.field(ones + 4)?)
+    }
+}
+
+#[derive(Default)]
+struct Node {
+    entry: Option<usize>,
+    next: [Option<usize>; 2],
+}
+
+/// A code table, as a tree of its words.
+pub struct Table {
+    nodes: Vec<Node>,
+}
+
+impl Table {
+    fn new() -> Table {
+        Table { nodes: vec![Node::default()] }
+    }
+
+    fn add(&mut self, word: &str, entry: usize) {
+        let mut node = 0;
+        for bit in word.bytes() {
+            let bit = (bit == b'1') as usize;
+            node = match self.nodes[node].next[bit] {
+                Some(next) => next,
+                None => {
+                    self.nodes.push(Node::default());
+                    let next = self.nodes.len() - 1;
+                    self.nodes[node].next[bit] = Some(next);
+                    next
+                }
+            };
+        }
+        self.nodes[node].entry = Some(entry);
+    }
+}
+
+/// All tables by name, from the lines of tables/words.tsv: table, entry, value, length, word.
+pub struct Tables {
+    named: Vec<(String, Table)>,
+}
+
+impl Tables {
+    pub fn parse(text: &str) -> Tables {
+        let mut named: Vec<(String, Table)> = Vec::new();
+        for line in text.lines().skip(1) {
+            let columns: Vec<&str> = line.split('\t').collect();
+            if named.last().map_or(true, |last| last.0 != columns[0]) {
+                named.push((columns[0].to_string(), Table::new()));
+            }
+            let entry = columns[1].parse().expect("an entry number");
+            named.last_mut().expect("a table").1.add(columns[4], entry);
+        }
+        Tables { named }
+    }
+
+    pub fn get(&self, name: &str) -> &Table {
+        &self.named.iter().find(|table| table.0 == name).expect("a table of this name").1
+    }
+}
