@@ -1,0 +1,1 @@
+// Runs of payloads and reports: definitions and laws alone.
