@@ -8,7 +8,7 @@ use lib.Dec.{T}
 use borrow.Author.Tests.{ltb-true}
 use lib.IntN.{ℤ, pos, negsuc, negℤ, natAbs, _-ℤ_}
 use lib.Signed.{ltZ, nonNeg, natAbs-le}
-use mir.Syntax.{w16, w64}
+use mir.Syntax.{w8, w16, w64}
 use mir.Val.{SFits, Fits, toZ, ofZ}
 use mir.ValLaws.{toZ-ofZ}
 use Rattle.bits.proofs.Signed.{fits, thru, neg-fits, neg-is, abs-neg}
@@ -20,6 +20,10 @@ below-not (negsuc n) e = tt
 above-not : (z : ℤ) → ltZ z (pos 0) ≡ false → T (nonNeg z)
 above-not (pos n) e = tt
 above-not (negsuc n) e = let z : _≡_ {A = ℕ} 0 1 = cc in absurd (omega arith)
+
+-- a number of 8 bits, widened
+pub widened-index : (z : ℤ) → SFits w8 z → SFits w16 (toZ w8 (ofZ w8 z))
+widened-index z f = fits 128 (rw (toZ-ofZ w8 z f) (natAbs-le z (f .sfits))) (omega arith)
 
 module _ (z : ℤ) (f : SFits w16 z) where
   small : natAbs (toZ w16 (ofZ w16 z)) ≤ 32768

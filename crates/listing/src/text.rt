@@ -28,6 +28,11 @@ pub fn put_next(line: &mut [u8], at: usize, n: u64) -> usize {
     put_number(line, to, n)
 }
 
+// A space and a byte's number.
+pub fn put_byte(line: &mut [u8], at: usize, n: u8) -> usize {
+    put_next(line, at, n as u64)
+}
+
 // How far a number is from 0.
 fn magnitude(n: i16) -> u64 {
     let wide = n as i64;
@@ -44,6 +49,12 @@ pub fn put_signed(line: &mut [u8], at: usize, n: i16) -> usize {
         return put_number(line, to, magnitude(n));
     }
     put_number(line, at, magnitude(n))
+}
+
+// A space and an index.
+pub fn put_index(line: &mut [u8], at: usize, n: i8) -> usize {
+    let to = put(line, at, b" ");
+    put_signed(line, to, n as i16)
 }
 
 // The line is ended and written out.

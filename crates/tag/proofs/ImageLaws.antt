@@ -1,15 +1,17 @@
 -- What a sound image's header says, fact by fact; and that each payload lies in the image.
 -- Assumes nothing.
-use Prim.Native.Nat.{ℕ, zero, suc, _+_, _*_, _%_, _-_, _≤_}
-use mathlib.Core.Path.{_≡_, subst}
-use mathlib.Core.Bool.{true, _&&_}
+use Prim.Native.Nat.{ℕ, zero, suc, _+_, _*_, _%_, _-_, _<_, _≤_}
+use mathlib.Core.Path.{_≡_, refl, sym, _∙_, ap, subst}
+use mathlib.Core.Bool.{Bool, true, false, _&&_}
 use mathlib.Core.List.{List}
 use native.Mathlib.Omega.{arith}
 use lib.Dec.{leb, eqb}
 use lib.ListN.{length}
 use borrow.Author.Tests.{leb-true, eqb-true}
 use Rattle.bits.proofs.Bools.{and-both}
-use Rattle.tag.specs.Image.{countOf, offsetOf, rising, soundImage}
+use Rattle.bits.specs.Reader.{pick}
+use Rattle.tag.specs.declared.Header.{Header}
+use Rattle.tag.specs.Image.{countOf, indexOf, offsetOf, rising, soundImage, knownIndex, refusedHeader, headerOf}
 
 pub record Sound (s : List ℕ) : Type 0 where
   pub small : length s ≤ 65535
@@ -56,3 +58,47 @@ rising-le s k (suc m) e (suc j) h =
     let q : k + 1 + j ≡ k + suc j = omega arith in
     let r′ : offsetOf s (k + 1) ≤ offsetOf s (k + suc j) = subst (λ (i : ℕ). offsetOf s (k + 1) ≤ offsetOf s i) q r in
     omega (arith, leb-true (offsetOf s k) (offsetOf s (k + 1)) (w .0))
+
+-- of offsets that rise, those from a later one on do
+rising-from : (s : List ℕ) (k m j : ℕ) → j ≤ m → rising s k m ≡ true → rising s (k + j) (m - j) ≡ true
+unfolding rising
+rising-from s k m zero h e = let a : k + 0 ≡ k = omega arith in let b : m - 0 ≡ m = omega arith in rw (a, b) e
+rising-from s k zero (suc j) h e = absurd (omega arith)
+rising-from s k (suc m) (suc j) h e =
+    let w = and-both (leb (offsetOf s k) (offsetOf s (k + 1))) (rising s (k + 1) m) e in
+    let a : k + suc j ≡ k + 1 + j = omega arith in
+    let b : suc m - suc j ≡ m - j = omega arith in
+    rw (a, b) (rising-from s (k + 1) m j (omega arith) (w .1))
+
+-- a payload's part lies in the image
+module _ (s : List ℕ) (f : Sound s) (k : ℕ) (h : k < countOf s) where
+  after-first : (j : ℕ) → j ≤ countOf s → rising s j (countOf s - j) ≡ true
+  after-first j l = let q : 0 + j ≡ j = omega arith in rw q at (rising-from s 0 (countOf s) j l (f .order))
+
+  pub part-order : offsetOf s k ≤ offsetOf s (k + 1)
+  part-order = rising-le s k (countOf s - k) (after-first k (omega arith)) 1 (omega arith)
+
+  pub part-inside : offsetOf s (k + 1) ≤ length s
+  part-inside =
+      let q : k + 1 + (countOf s - (k + 1)) ≡ countOf s = omega arith in
+      let r = rising-le s (k + 1) (countOf s - (k + 1)) (after-first (k + 1) (omega arith)) (countOf s - (k + 1)) (omega arith) in
+      let l : offsetOf s (k + 1) ≤ offsetOf s (countOf s) = subst (λ (i : ℕ). offsetOf s (k + 1) ≤ offsetOf s i) q r in
+      omega (arith, f .last)
+
+-- a header that is accepted is a sound image's
+pub header-sound : (s : List ℕ) → headerOf s .number ≡ 0 → Sound s × (headerOf s .count ≡ countOf s)
+unfolding headerOf
+header-sound s e = go (soundImage s) refl (knownIndex (indexOf s)) e
+  where
+    go : (a : Bool) → soundImage s ≡ a → (b : Bool)
+        → pick a (pick b (record { number = 0; count = countOf s; index = indexOf s }) (refusedHeader 3)) (refusedHeader 5) .number ≡ 0
+        → Sound s × (pick a (pick b (record { number = 0; count = countOf s; index = indexOf s }) (refusedHeader 3)) (refusedHeader 5) .count ≡ countOf s)
+    go true q true e = (sound-facts s q, refl)
+    go true q false e = absurd (omega arith)
+    go false q b e = absurd (omega arith)
+
+-- what is known where a header was accepted, and k is below its count
+pub header-known : (s : List ℕ) (k : ℕ) {h : Header} → h ≡ headerOf s → h .number ≡ 0 → k < h .count → Sound s × (k < countOf s)
+header-known s k {h} e z l =
+    let w = header-sound s (sym (ap (λ (x : Header). x .number) e) ∙ z) in
+    (w .0, omega (arith, w .1, ap (λ (x : Header). x .count) e))

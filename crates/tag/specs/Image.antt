@@ -2,11 +2,12 @@
 use Prim.Native.Nat.{ℕ, zero, suc, _+_, _*_, _%_}
 use mathlib.Core.List.{List}
 use mathlib.Core.Bool.{Bool, true, _&&_, _||_}
-use lib.Dec.{leb, eqb}
+use lib.Dec.{leb, ltb, eqb}
 use lib.ListN.{length, getD}
 use Rattle.bits.specs.Reader.{pick}
 use Rattle.bits.specs.Payload.{range}
 use Rattle.tag.specs.declared.Header.{Header}
+use Rattle.tag.specs.declared.Part.{Part}
 
 -- the pair of bytes at a place
 unfoldable pub pairAt : List ℕ → ℕ → ℕ
@@ -48,6 +49,19 @@ headerOf s =
     (pick (knownIndex (indexOf s)) (record { number = 0; count = countOf s; index = indexOf s }) (refusedHeader 3))
     (refusedHeader 5)
 
--- the k-th payload: its own part of the image
-abbrev pub partOf : List ℕ → ℕ → List ℕ
-partOf s k = range s (offsetOf s k) (offsetOf s (k + 1))
+abbrev pub refusedPart : ℕ → Part
+refusedPart n = record { number = n; start = 0; end = 0 }
+
+-- where the k-th payload stands, of an image whose header says this: the header's refusal; 1 where there is no such payload
+abbrev pub partIn : Header → List ℕ → ℕ → Part
+partIn h s k =
+    pick (eqb (h .number) 0)
+    (pick (ltb k (h .count)) (record { number = 0; start = offsetOf s k; end = offsetOf s (k + 1) }) (refusedPart 1))
+    (refusedPart (h .number))
+
+unfoldable pub partOf : List ℕ → ℕ → Part
+partOf s k = partIn (headerOf s) s k
+
+-- its bytes
+abbrev pub bytesOf : List ℕ → ℕ → List ℕ
+bytesOf s k = range s (offsetOf s k) (offsetOf s (k + 1))

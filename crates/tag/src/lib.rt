@@ -2,13 +2,20 @@
 ghost use mathlib.Core.Path.{_≡_};
 ghost use Prim.Native.Nat.{_+_, _*_, _<_, _≤_};
 ghost use lib.ListN.{length};
-ghost use Rattle.tag.specs.Image.{pairAt, rising, soundImage, knownIndex, headerOf};
+ghost use Rattle.tag.specs.Image.{pairAt, rising, soundImage, knownIndex, headerOf, partOf};
 
 // What an image's header says: a refusal's number, or 0 with the payload count and the sampling index.
 pub struct Header {
     pub number: u8,
     pub count: usize,
     pub index: usize,
+}
+
+// Where a payload stands in an image: a refusal's number, or 0 with its range of bytes.
+pub struct Part {
+    pub number: u8,
+    pub start: usize,
+    pub end: usize,
 }
 
 fn wide(x: u8) -> usize
@@ -109,5 +116,32 @@ pub fn read_header(image: &[u8]) -> Header
         number: 0,
         count: pair_at(image, 0),
         index,
+    }
+}
+
+// The part of an image that its k-th payload is; 1 where there is none. It lies in the image.
+pub fn part_of(image: &[u8], k: usize) -> Part
+    ensures { λ r. ⌜ (r ≡ partOf (now (image .entry)) k) × (r .start ≤ r .end) × (r .end ≤ length (now (image .entry))) ⌝ }
+{
+    let header = read_header(image);
+    let number = header.number;
+    if number != 0 {
+        return Part {
+            number,
+            start: 0,
+            end: 0,
+        };
+    }
+    if header.count <= k {
+        return Part {
+            number: 1,
+            start: 0,
+            end: 0,
+        };
+    }
+    Part {
+        number: 0,
+        start: pair_at(image, 2 * k + 4),
+        end: pair_at(image, 2 * k + 6),
     }
 }

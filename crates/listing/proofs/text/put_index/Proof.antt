@@ -1,0 +1,39 @@
+use Rattle.listing.proofs.Signs.{widened-index}
+use borrow.Author.Needs.{needs}
+use Rattle.listing.proofs.text.put_index.Statement.{statement}
+use Rattle.listing.proofs.text.put_index.Tie as tie
+use Rattle.listing.proofs.text.put_index.Reads as reads
+use Rattle.listing.proofs.text.put_index.Lts as lts
+use Rattle.listing.proofs.text.put.Reads as put-reads
+use Rattle.listing.proofs.text.put_signed.Reads as put-signed-reads
+
+slice-aggregate-put : tie.Need-slice-aggregate-put
+slice-aggregate-put c = search needs
+
+put-requires : tie.Need-put-requires
+put-requires c κs = search needs
+
+cast-put-signed : tie.Need-cast-put-signed
+cast-put-signed c =
+    let a = c .before .before .before .before .before .before .before in
+    widened-index (a .args .n) (a .fits .n)
+
+put-signed-requires : tie.Need-put-signed-requires
+put-signed-requires c κs = search needs
+
+same-length : tie.Need-same-length
+same-length c = search needs
+
+returns : tie.Need-returns
+returns c = search needs
+
+pub put-index-spec : {M : Type 1} → statement M
+put-index-spec =
+    tie.close
+    (tie.spec
+    slice-aggregate-put
+    put-requires
+    cast-put-signed
+    put-signed-requires
+    same-length
+    returns)
