@@ -88,3 +88,8 @@ of-short short e = rw e (refl, refl)
 pub of-long : (short : Bool) → short ≡ false → (top short ≡ 1024) × (most short ≡ 49)
 unfolding top most
 of-long short e = rw e (refl, refl)
+
+pub most-small : (short : Bool) → most short ≤ 49
+unfolding most
+most-small true = omega arith
+most-small false = omega arith

@@ -2,7 +2,7 @@
 ghost use mathlib.Core.Path.{_≡_};
 ghost use Prim.Native.Nat.{_-_, _≤_};
 ghost use lib.ListN.{take, drop};
-ghost use Rattle.spectrum.specs.Bands.{allEdges, bands};
+ghost use Rattle.spectrum.specs.Bands.{allEdges, bands, bandCount};
 
 // Indices 3 and 4, long; 3 and 4, short; 6 and 7, long; 6 and 7, short.
 const EDGES: [usize; 129] = [
@@ -173,4 +173,20 @@ pub fn part_of(index: u8, short: bool) -> Part
         first: 65,
         last: 113,
     }
+}
+
+// How many bands an index has for long or short windows.
+pub fn band_count(index: u8, short: bool) -> u32
+    ensures { λ r. ⌜ r ≡ bandCount index short ⌝ }
+{
+    if short {
+        if index <= 4 {
+            return 14;
+        }
+        return 15;
+    }
+    if index <= 4 {
+        return 49;
+    }
+    47
 }

@@ -1,0 +1,55 @@
+-- A channel stream.
+use Prim.Native.Nat.{ℕ}
+use mathlib.Core.List.{List}
+use lib.IntN.{ℤ}
+use Rattle.bits.specs.Reader.{Reader, give, _>>=_}
+use Rattle.bits.specs.Field.{field, zeroBit}
+use Rattle.spectrum.specs.Bands.{bands}
+use Rattle.spectrum.specs.Spectrum.{spectrum}
+use Rattle.channel.specs.Window.{Window, isShort, groups, window}
+use Rattle.channel.specs.Sections.{sections}
+use Rattle.channel.specs.Factors.{scaleFactors}
+use Rattle.channel.specs.Pulses.{Pulses, pulses, applyPulses}
+
+-- what stands before the pulses
+pub record Side : Type 0 where
+  pub gain : ℕ
+  pub info : Window
+  pub books : List ℕ
+  pub factors : List ℕ
+
+-- the pulses, and the lines before and after them
+pub record Coded : Type 0 where
+  pub pulses : Pulses
+  pub before : List ℤ
+  pub lines : List ℤ
+
+pub record Stream : Type 0 where
+  pub side : Side
+  pub coded : Coded
+
+-- global_gain; window information; sections; scale factors
+unfoldable pub sideOf : ℕ → Reader Side
+sideOf index = do
+  gain ← field 8
+  w ← window index
+  books ← sections w
+  factors ← scaleFactors gain w books
+  give (record { gain = gain; info = w; books = books; factors = factors })
+
+-- pulses; no TNS and no gain control, or 20; the spectrum; then the pulses are applied
+unfoldable pub codedOf : ℕ → Window → List ℕ → Reader Coded
+codedOf index w books = do
+  ps ← pulses index (isShort w)
+  tns ← zeroBit 20
+  control ← zeroBit 20
+  before ← spectrum (bands index (isShort w)) (w .maxSfb) books (groups w)
+  lines ← applyPulses ps before
+  give (record { pulses = ps; before = before; lines = lines })
+
+-- of a sampling index, 3, 4, 6 or 7
+unfoldable pub stream : ℕ → Reader Stream
+stream index = do
+  side ← sideOf index
+  coded ← codedOf index (side .info) (side .books)
+  give (record { side = side; coded = coded })

@@ -1,0 +1,5 @@
+// One AAC channel stream.
+mod factors;
+mod pulses;
+mod sections;
+mod window;
