@@ -4,3 +4,5 @@ pub mod FactorLaws
 pub mod PulseLaws
 pub mod LineLaws
 pub mod StreamLawful
+pub mod StreamLaws
+pub mod PromiseLaws

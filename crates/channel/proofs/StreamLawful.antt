@@ -20,7 +20,7 @@ use Rattle.channel.specs.Window.{Window, maxSfbOf, groupingOf, window}
 use Rattle.channel.specs.Sections.{Covered, increments, sectionLength, section, nextSection, groupSections, groupBooks, sections}
 use Rattle.channel.specs.Factors.{Factors, factor, bandFactor, firstFactors, scaleFactors}
 use Rattle.channel.specs.Pulses.{Laid, Pulses, pulse, eachPulse, startBand, pulseData, pulses, changed, applyPulse, applyPulses}
-use Rattle.channel.specs.Stream.{sideOf, codedOf, stream}
+use Rattle.channel.specs.Stream.{headOf, codedOf, stream}
 
 ruleset laws = (bind-lawful, give-lawful, refuse-lawful, pick-lawful, expecting-lawful, field-lawful, zeroBit-lawful, counted-lawful, here-lawful)
 
@@ -103,9 +103,9 @@ applied-lawful : (x : Pulses) (lines : List ℤ) → Lawful (applyPulses x lines
 unfolding applyPulses
 applied-lawful x lines = counted-lawful (applyPulse x) (apply-lawful x) 0 _ lines
 
-sideOf-lawful : (index : ℕ) → Lawful (sideOf index)
-unfolding sideOf
-sideOf-lawful index = search (laws, window-lawful, sections-lawful, factors-lawful) depth 12
+headOf-lawful : (index : ℕ) → Lawful (headOf index)
+unfolding headOf
+headOf-lawful index = search (laws, window-lawful) depth 12
 
 codedOf-lawful : (index : ℕ) (w : Window) (books : List ℕ) → Lawful (codedOf index w books)
 unfolding codedOf
@@ -113,4 +113,4 @@ codedOf-lawful index w books = search (laws, pulses-lawful, spectrum-lawful, app
 
 pub stream-lawful : (index : ℕ) → Lawful (stream index)
 unfolding stream
-stream-lawful index = search (laws, sideOf-lawful, codedOf-lawful) depth 8
+stream-lawful index = search (laws, headOf-lawful, sections-lawful, factors-lawful, codedOf-lawful) depth 12

@@ -4,3 +4,4 @@ pub mod Factors
 pub mod Pulses
 pub mod Stream
 pub mod Answers
+pub mod Promise

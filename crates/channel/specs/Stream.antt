@@ -11,12 +11,10 @@ use Rattle.channel.specs.Sections.{sections}
 use Rattle.channel.specs.Factors.{scaleFactors}
 use Rattle.channel.specs.Pulses.{Pulses, pulses, applyPulses}
 
--- what stands before the pulses
-pub record Side : Type 0 where
+-- global_gain and the window information
+pub record Head : Type 0 where
   pub gain : ℕ
   pub info : Window
-  pub books : List ℕ
-  pub factors : List ℕ
 
 -- the pulses, and the lines before and after them
 pub record Coded : Type 0 where
@@ -24,18 +22,19 @@ pub record Coded : Type 0 where
   pub before : List ℤ
   pub lines : List ℤ
 
+-- books and scale factors stand at group times max_sfb plus band
 pub record Stream : Type 0 where
-  pub side : Side
+  pub head : Head
+  pub books : List ℕ
+  pub factors : List ℕ
   pub coded : Coded
 
--- global_gain; window information; sections; scale factors
-unfoldable pub sideOf : ℕ → Reader Side
-sideOf index = do
+-- global_gain; then the window information
+unfoldable pub headOf : ℕ → Reader Head
+headOf index = do
   gain ← field 8
-  w ← window index
-  books ← sections w
-  factors ← scaleFactors gain w books
-  give (record { gain = gain; info = w; books = books; factors = factors })
+  info ← window index
+  give (record { gain = gain; info = info })
 
 -- pulses; no TNS and no gain control, or 20; the spectrum; then the pulses are applied
 unfoldable pub codedOf : ℕ → Window → List ℕ → Reader Coded
@@ -50,6 +49,8 @@ codedOf index w books = do
 -- of a sampling index, 3, 4, 6 or 7
 unfoldable pub stream : ℕ → Reader Stream
 stream index = do
-  side ← sideOf index
-  coded ← codedOf index (side .info) (side .books)
-  give (record { side = side; coded = coded })
+  head ← headOf index
+  books ← sections (head .info)
+  factors ← scaleFactors (head .gain) (head .info) books
+  coded ← codedOf index (head .info) books
+  give (record { head = head; books = books; factors = factors; coded = coded })

@@ -139,8 +139,8 @@ const EDGES: [usize; 129] = [
 
 // Where the bands of an index stand in the edges.
 pub struct Part {
-    first: usize,
-    last: usize,
+    pub first: usize,
+    pub last: usize,
 }
 
 // The edges of all bands.
