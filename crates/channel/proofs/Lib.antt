@@ -1,8 +1,6 @@
-pub mod WindowLaws
-pub mod SectionLaws
-pub mod FactorLaws
-pub mod PulseLaws
-pub mod LineLaws
-pub mod StreamLawful
 pub mod StreamLaws
+pub mod StreamLawful
 pub mod PromiseLaws
+pub mod Demands
+pub mod All
+pub mod Examples

@@ -1,13 +1,13 @@
 -- What the code of a call cites: what is judged before any bit, in the order of the numbers.
 -- Assumes nothing.
-use Prim.Native.Nat.{ℕ, _*_, _-_, _<_, _≤_}
+use Prim.Native.Nat.{ℕ, zero, suc, _*_, _-_, _<_, _≤_, _^_}
 use mathlib.Core.Path.{_≡_, refl, sym, _∙_, ap}
 use mathlib.Core.Bool.{Bool, true, false, _&&_}
 use native.Mathlib.Omega.{arith}
 use borrow.Author.Tests.{le-leb, lt-leb, leb-true, ne-eqb}
 use lib.Dec.{leb}
-use mathlib.Core.List.{List}
-use lib.ListN.{length}
+use mathlib.Core.List.{List, [], _∷_}
+use lib.ListN.{length, take, drop}
 use Rattle.bits.specs.Reader.{got, refused, Reader, pick}
 use Rattle.bits.specs.Payload.{range, ended, whole}
 use Rattle.channel.specs.Stream.{stream}
@@ -76,3 +76,12 @@ pub whole-long : {A : Type 0} (r : Reader A) (s : List ℕ) (next : ℕ) (a : A)
     → whole r s ≡ refused 12 next
 unfolding whole ended
 whole-long r s next a e h = rw (e, lt-leb _ _ h)
+
+-- a range is no longer than the numbers that bound it
+take-short : (n : ℕ) (xs : List ℕ) → length (take n xs) ≤ n
+take-short zero xs = omega arith
+take-short (suc n) [] = omega arith
+take-short (suc n) (x ∷ xs) = let h = take-short n xs in omega arith
+
+pub range-short : (s : List ℕ) (start end : ℕ) → end < 2 ^ 32 → length (range s start end) < 2 ^ 32
+range-short s start end h = omega (arith, take-short (end - start) (drop start s))

@@ -13,14 +13,15 @@ use Rattle.bits.specs.declared.Ended.{Ended}
 use Rattle.bits.specs.declared.Ended.the-variants.{At, Refused}
 use Rattle.spectrum.specs.Bands.{bands, long34, short34, long67, short67, allEdges}
 use Rattle.spectrum.specs.Spectrum.{groupLines, spectrum}
-use Rattle.channel.specs.declared.window.Windowed.{Windowed}
+use Rattle.side.specs.declared.window.Windowed.{Windowed}
 use Rattle.channel.specs.declared.stream.Opened.{Opened}
-use Rattle.channel.specs.Answers.{windowAnswer, pulsesAnswer, headAnswer, HoldsLines}
-use Rattle.channel.specs.Window.{Window, isShort, groups, window}
-use Rattle.channel.specs.Sections.{groupBooks, widthOf, sections}
-use Rattle.channel.specs.Factors.{firstFactors, scaleFactors}
-use Rattle.channel.specs.Pulses.{Pulses, pulses, applyPulses}
-use Rattle.channel.specs.Stream.{Head, Coded, headOf, codedOf, stream}
+use Rattle.side.specs.Answers.{windowAnswer, pulsesAnswer}
+use Rattle.channel.specs.Answers.{headAnswer, HoldsLines}
+use Rattle.side.specs.Window.{Window, isShort, groups, window}
+use Rattle.side.specs.Sections.{groupBooks, widthOf, sections}
+use Rattle.side.specs.Factors.{firstFactors, scaleFactors}
+use Rattle.side.specs.Pulses.{Pulses, pulses, applyPulses}
+use Rattle.channel.specs.Stream.{Head, Coded, headOf, unpulsed, codedOf, stream}
 
 -- the answers, by the variants that they are
 pub window-is : {r v : Windowed} {x : Answer Window} → windowAnswer r ≡ x → r ≡ v → x ≡ windowAnswer v
@@ -53,31 +54,34 @@ unfolding spectrum
 spectrum-is edges bs sfbs books gs lines s at end b l e = rw (← b, ← l) e
 
 module _ (index : ℕ) (w : Window) (books s : List ℕ) (at end : ℕ) where
+  pub unpulsed-tns : (r p : ℕ) → zeroBit 20 s at end ≡ refused r p → unpulsed index w books s at end ≡ refused r p
+  unfolding unpulsed
+  unpulsed-tns r p e = rw e
+
+  module _ (v₁ a₁ : ℕ) (e₁ : zeroBit 20 s at end ≡ got v₁ a₁) where
+    pub unpulsed-control : (r p : ℕ) → zeroBit 20 s a₁ end ≡ refused r p → unpulsed index w books s at end ≡ refused r p
+    unfolding unpulsed
+    unpulsed-control r p e = rw (e₁, e)
+
+    pub unpulsed-is : {x : Answer (List ℤ)} (v₂ a₂ : ℕ) → zeroBit 20 s a₁ end ≡ got v₂ a₂
+        → spectrum (bands index (isShort w)) (w .maxSfb) books (groups w) s a₂ end ≡ x → unpulsed index w books s at end ≡ x
+    unfolding unpulsed
+    unpulsed-is v₂ a₂ e₂ e = rw (e₁, e₂) e
+
   pub coded-pulses : (r p : ℕ) → pulses index (isShort w) s at end ≡ refused r p → codedOf index w books s at end ≡ refused r p
   unfolding codedOf
   coded-pulses r p e = rw e
 
   module _ (ps : Pulses) (a₁ : ℕ) (e₁ : pulses index (isShort w) s at end ≡ got ps a₁) where
-    pub coded-tns : (r p : ℕ) → zeroBit 20 s a₁ end ≡ refused r p → codedOf index w books s at end ≡ refused r p
+    pub coded-lines : (r p : ℕ) → unpulsed index w books s a₁ end ≡ refused r p → codedOf index w books s at end ≡ refused r p
     unfolding codedOf
-    coded-tns r p e = rw (e₁, e)
+    coded-lines r p e = rw (e₁, e)
 
-    module _ (v₂ a₂ : ℕ) (e₂ : zeroBit 20 s a₁ end ≡ got v₂ a₂) where
-      pub coded-control : (r p : ℕ) → zeroBit 20 s a₂ end ≡ refused r p → codedOf index w books s at end ≡ refused r p
-      unfolding codedOf
-      coded-control r p e = rw (e₁, e₂, e)
-
-      module _ (v₃ a₃ : ℕ) (e₃ : zeroBit 20 s a₂ end ≡ got v₃ a₃) where
-        pub coded-lines : (r p : ℕ) → spectrum (bands index (isShort w)) (w .maxSfb) books (groups w) s a₃ end ≡ refused r p
-            → codedOf index w books s at end ≡ refused r p
-        unfolding codedOf
-        coded-lines r p e = rw (e₁, e₂, e₃, e)
-
-        pub coded-is : (before : List ℤ) (a₄ : ℕ) → spectrum (bands index (isShort w)) (w .maxSfb) books (groups w) s a₃ end ≡ got before a₄
-            → (r : Ended) (lines : List ℤ) → endedAnswer r lines ≡ applyPulses ps before s a₄ end → HoldsLines r lines (codedOf index w books s at end)
-        unfolding codedOf
-        coded-is before a₄ e₄ (At next) lines e₅ = (record { pulses = ps; before = before; lines = lines }, refl, rw (e₁, e₂, e₃, e₄, ← e₅))
-        coded-is before a₄ e₄ (Refused n place) lines e₅ = rw (e₁, e₂, e₃, e₄, ← e₅)
+    pub coded-is : (before : List ℤ) (a₂ : ℕ) → unpulsed index w books s a₁ end ≡ got before a₂ → (r : Ended) (lines : List ℤ)
+        → endedAnswer r lines ≡ applyPulses ps before s a₂ end → HoldsLines r lines (codedOf index w books s at end)
+    unfolding codedOf
+    coded-is before a₂ e₂ (At next) lines e₃ = (record { pulses = ps; before = before; lines = lines }, refl, rw (e₁, e₂, ← e₃))
+    coded-is before a₂ e₂ (Refused n place) lines e₃ = rw (e₁, e₂, ← e₃)
 
 -- the sections, as the code reads them into lent books
 pub sections-is : {x : Answer (List ℕ)} (w : Window) (books s : List ℕ) (at end : ℕ) → books ≡ replicate 120 0

@@ -1,7 +1,3 @@
-pub mod Window
-pub mod Sections
-pub mod Factors
-pub mod Pulses
 pub mod Stream
 pub mod Answers
 pub mod Promise

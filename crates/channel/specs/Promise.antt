@@ -8,7 +8,7 @@ use lib.ListN.{length, drop, replicate}
 use Rattle.bits.specs.Reader.{Answer, got, refused, pick}
 use Rattle.bits.specs.Payload.{inBuffer, range, whole}
 use Rattle.spectrum.specs.Grouping.{inEight}
-use Rattle.channel.specs.Window.{groups}
+use Rattle.side.specs.Window.{groups}
 use Rattle.channel.specs.Stream.{Head, Stream, stream}
 use Rattle.channel.specs.declared.Reading.{Reading}
 

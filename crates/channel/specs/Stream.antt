@@ -6,10 +6,10 @@ use Rattle.bits.specs.Reader.{Reader, give, _>>=_}
 use Rattle.bits.specs.Field.{field, zeroBit}
 use Rattle.spectrum.specs.Bands.{bands}
 use Rattle.spectrum.specs.Spectrum.{spectrum}
-use Rattle.channel.specs.Window.{Window, isShort, groups, window}
-use Rattle.channel.specs.Sections.{sections}
-use Rattle.channel.specs.Factors.{scaleFactors}
-use Rattle.channel.specs.Pulses.{Pulses, pulses, applyPulses}
+use Rattle.side.specs.Window.{Window, isShort, groups, window}
+use Rattle.side.specs.Sections.{sections}
+use Rattle.side.specs.Factors.{scaleFactors}
+use Rattle.side.specs.Pulses.{Pulses, pulses, applyPulses}
 
 -- global_gain and the window information
 pub record Head : Type 0 where
@@ -36,13 +36,18 @@ headOf index = do
   info ← window index
   give (record { gain = gain; info = info })
 
--- pulses; no TNS and no gain control, or 20; the spectrum; then the pulses are applied
+-- no TNS and no gain control, or 20; then the spectrum
+unfoldable pub unpulsed : ℕ → Window → List ℕ → Reader (List ℤ)
+unpulsed index w books = do
+  tns ← zeroBit 20
+  control ← zeroBit 20
+  spectrum (bands index (isShort w)) (w .maxSfb) books (groups w)
+
+-- pulses; flags and spectrum; then the pulses are applied
 unfoldable pub codedOf : ℕ → Window → List ℕ → Reader Coded
 codedOf index w books = do
   ps ← pulses index (isShort w)
-  tns ← zeroBit 20
-  control ← zeroBit 20
-  before ← spectrum (bands index (isShort w)) (w .maxSfb) books (groups w)
+  before ← unpulsed index w books
   lines ← applyPulses ps before
   give (record { pulses = ps; before = before; lines = lines })
 

@@ -3,16 +3,14 @@ ghost use mathlib.Core.Path.{_≡_};
 ghost use mathlib.Core.List.{_++_};
 ghost use Prim.Native.Nat.{_*_, _≤_, _<_, _^_};
 ghost use lib.ListN.{length, drop};
+ghost use Rattle.bits.specs.Payload.{whole};
 ghost use Rattle.channel.specs.Answers.{headIn};
+ghost use Rattle.channel.specs.Stream.{stream};
 ghost use Rattle.channel.specs.Promise.{judged, refusal, accepted, channel, readingOf, linesAfter, factorsAfter, booksAfter};
 use crate::stream::Opened;
 use crate::stream::Opening;
 
-mod factors;
-mod pulses;
-mod sections;
 mod stream;
-mod window;
 
 // What a call found: 0 and the numbers of a stream, with the windows of each group and the bits used; or a refusal's number.
 pub struct Reading {
@@ -121,7 +119,36 @@ fn copy_bands(out: &mut [u8], bands: [u8; 120])
     }
 }
 
-// The channel stream in the bytes from start to end of a buffer, for a sampling index: the lines, scale factors and books are written to
+// The channel stream in a slice: its lines, scale factors and books are written to the front of the lent outputs where it is accepted.
+fn read_slice(
+    s: &[u8],
+    index: u8,
+    lines: &mut [i16],
+    factors: &mut [u8],
+    books: &mut [u8],
+) -> Reading
+    requires { ⌜ (length (now s) < 2 ^ 32) × (1024 ≤ length (now lines)) × (120 ≤ length (now factors)) × (120 ≤ length (now books)) ⌝ }
+    ensures { λ r. ⌜ r ≡ readingOf (whole (stream index) (now (s .entry))) ⌝ }
+    ensures { λ r. ⌜ now (lines .exit) ≡ linesAfter (whole (stream index) (now (s .entry))) (now (lines .entry)) ⌝ }
+    ensures { λ r. ⌜ now (factors .exit) ≡ factorsAfter (whole (stream index) (now (s .entry))) (now (factors .entry)) ⌝ }
+    ensures { λ r. ⌜ now (books .exit) ≡ booksAfter (whole (stream index) (now (s .entry))) (now (books .entry)) ⌝ }
+{
+    let mut band_books = [0u8; 120];
+    let mut band_factors = [0u8; 120];
+    let mut all_lines = [0i16; 1024];
+    let r = stream::read_payload(s, index, &mut band_books, &mut band_factors, &mut all_lines);
+    match r {
+        Opened::Read(opening, bits) => {
+            copy_lines(lines, all_lines);
+            copy_bands(factors, band_factors);
+            copy_bands(books, band_books);
+            answer(opening, bits)
+        }
+        Opened::Refused(number, _) => refused(number),
+    }
+}
+
+// The channel stream in the bytes from start to end of a buffer, for a sampling index: its lines, scale factors and books are written to
 // the front of the lent outputs where it is accepted.
 pub fn read_channel(
     buf: &[u8],
@@ -151,23 +178,5 @@ pub fn read_channel(
     if number != 0 {
         return refused(number);
     }
-    let mut band_books = [0u8; 120];
-    let mut band_factors = [0u8; 120];
-    let mut all_lines = [0i16; 1024];
-    let r = stream::read_payload(
-        &buf[first..last],
-        index,
-        &mut band_books,
-        &mut band_factors,
-        &mut all_lines,
-    );
-    match r {
-        Opened::Read(opening, bits) => {
-            copy_lines(lines, all_lines);
-            copy_bands(factors, band_factors);
-            copy_bands(books, band_books);
-            answer(opening, bits)
-        }
-        Opened::Refused(number, _) => refused(number),
-    }
+    read_slice(&buf[first..last], index, lines, factors, books)
 }

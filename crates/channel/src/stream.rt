@@ -6,15 +6,22 @@ ghost use lib.IntN.{pos};
 ghost use lib.ListN.{length, replicate};
 ghost use Rattle.tables.specs.Tables.{Tables};
 ghost use Rattle.spectrum.specs.Bands.{bands, bandCount, allEdges};
-ghost use Rattle.channel.specs.Answers.{windowOf, headAnswer, SoundHead, openRefusal, HoldsLines, HoldsStream};
+ghost use Rattle.side.specs.Answers.{windowOf};
+ghost use Rattle.channel.specs.Answers.{headAnswer, SoundHead, openRefusal, HoldsLines, HoldsStream};
 ghost use Rattle.bits.specs.Answers.{endedAnswer};
 ghost use Rattle.bits.specs.Payload.{whole};
-ghost use Rattle.channel.specs.Factors.{scaleFactors};
-ghost use Rattle.channel.specs.Stream.{headOf, codedOf, stream};
-use crate::window::Info;
-use crate::window::Windowed;
+ghost use Rattle.side.specs.Factors.{scaleFactors};
+ghost use Rattle.channel.specs.Stream.{headOf, unpulsed, codedOf, stream};
 use bits::Ended;
 use bits::Field;
+use side::factors::read_factors;
+use side::pulses::apply_pulses;
+use side::pulses::read_pulses;
+use side::sections::read_books;
+use side::window::Info;
+use side::window::Windowed;
+use side::window::read_flag;
+use side::window::read_window;
 use spectrum::bands::part_of;
 use spectrum::grouping::groups_of;
 use spectrum::lines::read_lines;
@@ -50,7 +57,7 @@ fn read_head(s: &[u8], at: usize, end: usize, index: u8) -> Opened
     let Field::Got(gain, next) = f else {
         return refusal(bits::passed_on(f));
     };
-    match crate::window::read_window(s, next, end, index) {
+    match read_window(s, next, end, index) {
         Windowed::Read(info, last) => Opened::Read(
             Opening {
                 gain: gain as u8,
@@ -62,8 +69,49 @@ fn read_head(s: &[u8], at: usize, end: usize, index: u8) -> Opened
     }
 }
 
+// The flags of TNS and gain control and the spectrum, with the bands of the windows, into lines that are 0.
+fn read_unpulsed(
+    s: &[u8],
+    at: usize,
+    end: usize,
+    codes: &[u32],
+    lens: &[u8],
+    edges: &[usize],
+    index: u8,
+    info: Info,
+    books: &[u8; 120],
+    lines: &mut [i16; 1024],
+) -> Ended
+    requires { ⌜ (end ≤ 8 * length (now s)) × Tables (now codes) (now lens) × (now edges ≡ bands index (eqb (info .sequence) 2)) × (info .sfbs ≤ bandCount index (eqb (info .sequence) 2)) × (now lines ≡ replicate 1024 (pos 0)) ⌝ }
+    ensures { λ r. ⌜ endedAnswer r (now (lines .exit)) ≡ unpulsed index (windowOf info) (now (books .entry)) (now (s .entry)) at end ⌝ }
+{
+    let f1 = read_flag(s, at, end, 20);
+    let Field::Got(_, a1) = f1 else {
+        return bits::passed_on(f1);
+    };
+    let f2 = read_flag(s, a1, end, 20);
+    let Field::Got(_, a2) = f2 else {
+        return bits::passed_on(f2);
+    };
+    let short = info.sequence == 2;
+    let sfbs = info.sfbs as usize;
+    read_lines(
+        s,
+        a2,
+        end,
+        codes,
+        lens,
+        edges,
+        short,
+        sfbs,
+        info.grouping,
+        books,
+        lines,
+    )
+}
+
 // Pulses, flags and spectrum, with the bands of the windows, into lines that are 0.
-fn read_coded(
+fn read_pulsed(
     s: &[u8],
     at: usize,
     end: usize,
@@ -78,49 +126,61 @@ fn read_coded(
     requires { ⌜ (end ≤ 8 * length (now s)) × Tables (now codes) (now lens) × (now edges ≡ bands index (eqb (info .sequence) 2)) × (info .sfbs ≤ bandCount index (eqb (info .sequence) 2)) × (now lines ≡ replicate 1024 (pos 0)) ⌝ }
     ensures { λ r. ⌜ HoldsLines r (now (lines .exit)) (codedOf index (windowOf info) (now (books .entry)) (now (s .entry)) at end) ⌝ }
 {
-    let short = info.sequence == 2;
     let mut targets = [0u32; 4];
     let mut amplitudes = [0u8; 4];
     let mut places = [0usize; 4];
-    let f1 = crate::pulses::read_pulses(
+    let f = read_pulses(
         s,
         at,
         end,
         index,
-        short,
+        info.sequence == 2,
         edges,
         &mut targets,
         &mut amplitudes,
         &mut places,
     );
-    let Field::Got(count, a1) = f1 else {
-        return bits::passed_on(f1);
+    let Field::Got(count, a1) = f else {
+        return bits::passed_on(f);
     };
-    let f2 = crate::window::read_flag(s, a1, end, 20);
-    let Field::Got(_, a2) = f2 else {
-        return bits::passed_on(f2);
+    let r = read_unpulsed(s, a1, end, codes, lens, edges, index, info, books, lines);
+    let Ended::At(a2) = r else {
+        return r;
     };
-    let f3 = crate::window::read_flag(s, a2, end, 20);
-    let Field::Got(_, a3) = f3 else {
-        return bits::passed_on(f3);
-    };
-    let r = read_lines(
+    apply_pulses(a2, count as usize, &targets, &amplitudes, &places, lines)
+}
+
+// Pulses, flags and spectrum, with the edges of all bands, into lines that are 0.
+fn read_coded(
+    s: &[u8],
+    at: usize,
+    end: usize,
+    codes: &[u32],
+    lens: &[u8],
+    edges: &[usize],
+    index: u8,
+    info: Info,
+    books: &[u8; 120],
+    lines: &mut [i16; 1024],
+) -> Ended
+    requires { ⌜ (end ≤ 8 * length (now s)) × Tables (now codes) (now lens) × (now edges ≡ allEdges) × (info .sfbs ≤ bandCount index (eqb (info .sequence) 2)) × (now lines ≡ replicate 1024 (pos 0)) ⌝ }
+    ensures { λ r. ⌜ HoldsLines r (now (lines .exit)) (codedOf index (windowOf info) (now (books .entry)) (now (s .entry)) at end) ⌝ }
+{
+    let part = part_of(index, info.sequence == 2);
+    let first = part.first;
+    let last = part.last;
+    read_pulsed(
         s,
-        a3,
+        at,
         end,
         codes,
         lens,
-        edges,
-        short,
-        info.sfbs as usize,
-        info.grouping,
+        &edges[first..last],
+        index,
+        info,
         books,
         lines,
-    );
-    let Ended::At(a4) = r else {
-        return r;
-    };
-    crate::pulses::apply_pulses(a4, count as usize, &targets, &amplitudes, &places, lines)
+    )
 }
 
 // The scale factors of all groups, into an array of zeros.
@@ -141,7 +201,7 @@ fn read_scale_factors(
     let info = opening.info;
     let groups = groups_of(info.sequence == 2, info.grouping);
     let n = groups.count * info.sfbs as usize;
-    crate::factors::read_factors(
+    read_factors(
         s,
         at,
         end,
@@ -175,15 +235,7 @@ pub fn read_stream(
     };
     let info = opening.info;
     let short = info.sequence == 2;
-    let r1 = crate::sections::read_books(
-        s,
-        a1,
-        end,
-        short,
-        info.sfbs as usize,
-        info.grouping,
-        books,
-    );
+    let r1 = read_books(s, a1, end, short, info.sfbs as usize, info.grouping, books);
     let Ended::At(a2) = r1 else {
         return refusal(r1);
     };
@@ -191,21 +243,7 @@ pub fn read_stream(
     let Ended::At(a3) = r2 else {
         return refusal(r2);
     };
-    let part = part_of(index, short);
-    let first = part.first;
-    let last = part.last;
-    let r3 = read_coded(
-        s,
-        a3,
-        end,
-        codes,
-        lens,
-        &edges[first..last],
-        index,
-        info,
-        books,
-        lines,
-    );
+    let r3 = read_coded(s, a3, end, codes, lens, edges, index, info, books, lines);
     let Ended::At(a4) = r3 else {
         return refusal(r3);
     };

@@ -1,6 +1,6 @@
 // The lines of a channel stream, in window order.
 ghost use mathlib.Core.Path.{_≡_};
-ghost use Prim.Native.Nat.{_+_, _*_, _-_, _<_, _≤_};
+ghost use Prim.Native.Nat.{suc, _+_, _*_, _-_, _<_, _≤_};
 ghost use lib.ListN.{length};
 ghost use Rattle.bits.specs.Loop.{counted};
 ghost use Rattle.bits.specs.Answers.{endedAnswer};
@@ -18,6 +18,17 @@ pub struct Group {
     base: usize,
     from: usize,
     windows: usize,
+}
+
+// A group by its numbers.
+fn group_at(base: usize, from: usize, windows: usize) -> Group
+    ensures { λ r. ⌜ r ≡ record { base = base; from = from; windows = windows } ⌝ }
+{
+    Group {
+        base,
+        from,
+        windows,
+    }
 }
 
 // The first n of some values are put in the lines, from line k on.
@@ -107,6 +118,30 @@ fn read_windows(
     Ended::At(place)
 }
 
+// The b-th band of a group of windows.
+fn read_group_band(
+    s: &[u8],
+    at: usize,
+    end: usize,
+    codes: &[u32],
+    lens: &[u8],
+    edges: &[usize],
+    books: &[u8; 120],
+    group: Group,
+    b: usize,
+    lines: &mut [i16; 1024],
+) -> Ended
+    requires { ⌜ (end ≤ 8 * length (now s)) × Tables (now codes) (now lens) × Rising (now edges) (1152 - 128 * (group .from + group .windows)) × (suc b < length (now edges)) × (group .base + b < 120) × (group .from + group .windows ≤ 8) ⌝ }
+    ensures { λ r. ⌜ endedAnswer r (now (lines .exit)) ≡ groupBand (now (edges .entry)) (now (books .entry)) (group .base) (group .from) (group .windows) b (now (lines .entry)) (now (s .entry)) at end ⌝ }
+{
+    let book = books[group.base + b];
+    let first = edges[b];
+    let width = edges[b + 1] - first;
+    let from = group.from;
+    let n = group.windows;
+    read_windows(s, at, end, codes, lens, book, first, width, from, n, lines)
+}
+
 // The lines of a group of windows.
 fn read_group(
     s: &[u8],
@@ -123,25 +158,10 @@ fn read_group(
     requires { ⌜ (end ≤ 8 * length (now s)) × Tables (now codes) (now lens) × Rising (now edges) (1152 - 128 * (group .from + group .windows)) × (sfbs < length (now edges)) × (group .base + sfbs ≤ 120) × (group .from + group .windows ≤ 8) ⌝ }
     ensures { λ r. ⌜ endedAnswer r (now (lines .exit)) ≡ counted 0 sfbs (groupBand (now (edges .entry)) (now (books .entry)) (group .base) (group .from) (group .windows)) (now (lines .entry)) (now (s .entry)) at end ⌝ }
 {
-    let base = group.base;
     let mut place = at;
     let mut b = 0;
     while b < sfbs {
-        let first = edges[b];
-        let width = edges[b + 1] - first;
-        let r = read_windows(
-            s,
-            place,
-            end,
-            codes,
-            lens,
-            books[base + b],
-            first,
-            width,
-            group.from,
-            group.windows,
-            lines,
-        );
+        let r = read_group_band(s, place, end, codes, lens, edges, books, group, b, lines);
         let Ended::At(next) = r else {
             return r;
         };
@@ -169,11 +189,7 @@ pub fn read_lines(
     ensures { λ r. ⌜ endedAnswer r (now (lines .exit)) ≡ groupLines (now (edges .entry)) sfbs (now (books .entry)) (groupsOf short grouping) 0 0 (now (lines .entry)) (now (s .entry)) at end ⌝ }
 {
     if !short {
-        let only = Group {
-            base: 0,
-            from: 0,
-            windows: 1,
-        };
+        let only = group_at(0, 0, 1);
         return read_group(s, at, end, codes, lens, edges, sfbs, books, only, lines);
     }
     let mut place = at;
@@ -181,11 +197,7 @@ pub fn read_lines(
     let mut from = 0;
     while from < 8 {
         let n = group_length(grouping, from);
-        let group = Group {
-            base: base,
-            from: from,
-            windows: n,
-        };
+        let group = group_at(base, from, n);
         let r = read_group(s, place, end, codes, lens, edges, sfbs, books, group, lines);
         let Ended::At(next) = r else {
             return r;

@@ -1,155 +1,48 @@
-use mathlib.Core.Path.{_∙_, ap}
-use native.Mathlib.Omega.{arith}
-use lib.Dec.{eqb}
-use Rattle.bits.specs.Answers.{passedOn}
-use Rattle.bits.proofs.Taken.{answered, ended-is}
-use Rattle.spectrum.proofs.BandLaws.{bands-rising, bands-most, bands-some}
-use Rattle.channel.specs.Answers.{windowOf}
-use Rattle.channel.proofs.StreamLaws.{pulses-is, spectrum-is, coded-pulses, coded-tns, coded-control, coded-lines, coded-is}
+use mathlib.Core.Path.{_≡_, _∙_, ap}
+use lib.ListN.{length}
+use Rattle.channel.proofs.StreamLaws.{edges-count}
 use borrow.Author.Needs.{needs}
 use Rattle.channel.proofs.stream.read_coded.Statement.{statement}
 use Rattle.channel.proofs.stream.read_coded.Tie as tie
 use Rattle.channel.proofs.stream.read_coded.Reads as reads
 use Rattle.channel.proofs.stream.read_coded.Lts as lts
-use Rattle.bits.proofs.passed_on.Reads as passed-on-reads
-use Rattle.channel.proofs.pulses.apply_pulses.Reads as apply-pulses-reads
-use Rattle.channel.proofs.pulses.read_pulses.Reads as read-pulses-reads
-use Rattle.channel.proofs.window.read_flag.Reads as read-flag-reads
-use Rattle.spectrum.proofs.lines.read_lines.Reads as read-lines-reads
+use Rattle.channel.proofs.stream.read_pulsed.Reads as read-pulsed-reads
+use Rattle.spectrum.proofs.bands.part_of.Reads as part-of-reads
 
-read-pulses-requires : tie.Need-read-pulses-requires
-read-pulses-requires c κs = search needs
+part-of-requires : tie.Need-part-of-requires
+part-of-requires c κs = search needs
 
-enum-known-f1 : tie.Need-enum-known-f1
-enum-known-f1 c = search needs
+mul-read-pulsed : tie.Need-mul-read-pulsed
+mul-read-pulsed c = search needs
 
-enum-told : tie.Need-enum-told
-enum-told c = search needs
+sub-read-pulsed : tie.Need-sub-read-pulsed
+sub-read-pulsed c = search needs
 
-passed-on-requires : tie.Need-passed-on-requires
-passed-on-requires c κs = search needs
+part-read-pulsed-start : tie.Need-part-read-pulsed-start
+part-read-pulsed-start c = search needs
+
+part-read-pulsed-end : tie.Need-part-read-pulsed-end
+part-read-pulsed-end c =
+    let a = c .before .before .before .before .before .before in
+    let l : length (a .args .edges .now) ≡ 129 = ap length (a .pre .2) ∙ edges-count in
+    search needs
+
+read-pulsed-requires : tie.Need-read-pulsed-requires
+read-pulsed-requires c κs =
+    let a = c .before .before .before .before .before .before .before .before in
+    (a .pre .0, a .pre .1, rw (a .pre .2) (c .before .before .part-of .ensures .0), a .pre .3, a .pre .4)
 
 returns : tie.Need-returns
-returns c =
-    let a = c .before .before .before .before .before .before .before .before .before .before .before .before in
-    let x = a .args in
-    let e = pulses-is _ _ _ (c .before .before .before .read-pulses .ensures .0) (c .before .enum-told .given .1) in
-    let z = c .passed-on .ensures ∙ ap passedOn (c .before .enum-told .given .1) in
-    rw z (coded-pulses (x .index) (windowOf (x .info)) (x .books .now) (x .s .now) (x .at) (x .end) _ _ e)
-
-read-flag-requires : tie.Need-read-flag-requires
-read-flag-requires c κs = search needs
-
-enum-known-f2 : tie.Need-enum-known-f2
-enum-known-f2 c = search needs
-
-enum-told-2 : tie.Need-enum-told-2
-enum-told-2 c = search needs
-
-passed-on-requires-2 : tie.Need-passed-on-requires-2
-passed-on-requires-2 c κs = search needs
-
-returns-2 : tie.Need-returns-2
-returns-2 c =
-    let a = c .before .before .before .before .before .before .before .before .before .before .before .before .before .before .before .before in
-    let x = a .args in
-    let e1 = pulses-is _ _ _ (c .before .before .before .before .before .before .before .read-pulses .ensures .0) (c .before .before .before .before .before .f1 .given .1) in
-    let e = answered (c .before .before .before .read-flag .ensures) (c .before .enum-told2 .given .1) in
-    let z = c .passed-on2 .ensures ∙ ap passedOn (c .before .enum-told2 .given .1) in
-    rw z (coded-tns (x .index) (windowOf (x .info)) (x .books .now) (x .s .now) (x .at) (x .end) _ _ e1 _ _ e)
-
-read-flag-requires-2 : tie.Need-read-flag-requires-2
-read-flag-requires-2 c κs = search needs
-
-enum-known-f3 : tie.Need-enum-known-f3
-enum-known-f3 c = search needs
-
-enum-told-3 : tie.Need-enum-told-3
-enum-told-3 c = search needs
-
-passed-on-requires-3 : tie.Need-passed-on-requires-3
-passed-on-requires-3 c κs = search needs
-
-returns-3 : tie.Need-returns-3
-returns-3 c =
-    let a = c .before .before .before .before .before .before .before .before .before .before .before .before .before .before .before .before .before .before .before .before in
-    let x = a .args in
-    let e1 = pulses-is _ _ _ (c .before .before .before .before .before .before .before .before .before .before .before .read-pulses .ensures .0) (c .before .before .before .before .before .before .before .before .before .f1 .given .1) in
-    let e2 = answered (c .before .before .before .before .before .before .before .read-flag .ensures) (c .before .before .before .before .before .f2 .given .1) in
-    let e = answered (c .before .before .before .read-flag2 .ensures) (c .before .enum-told3 .given .1) in
-    let z = c .passed-on3 .ensures ∙ ap passedOn (c .before .enum-told3 .given .1) in
-    rw z (coded-control (x .index) (windowOf (x .info)) (x .books .now) (x .s .now) (x .at) (x .end) _ _ e1 _ _ e2 _ _ e)
-
-cast-read-lines : tie.Need-cast-read-lines
-cast-read-lines c = search needs
-
-read-lines-requires : tie.Need-read-lines-requires
-read-lines-requires c κs =
-    let a = c .before .before .before .before .before .before .before .before .before .before .before .before .before .before .before .before .before .before .before .before .before .before in
-    let x = a .args in
-    let short = eqb (x .info .sequence) 2 in
-    let most = bands-most (x .index) short in
-    let some = bands-some (x .index) short in
-    (a .pre .0, a .pre .1, rw (a .pre .2) (bands-rising (x .index) short), rw (a .pre .2) (omega arith), omega arith)
-
-enum-known-r : tie.Need-enum-known-r
-enum-known-r c = search needs
-
-enum-told-4 : tie.Need-enum-told-4
-enum-told-4 c = search needs
-
-returns-4 : tie.Need-returns-4
-returns-4 c =
-    let a = c .before .before .before .before .before .before .before .before .before .before .before .before .before .before .before .before .before .before .before .before .before .before .before .before .before in
-    let x = a .args in
-    let e1 = pulses-is _ _ _ (c .before .before .before .before .before .before .before .before .before .before .before .before .before .before .before .before .read-pulses .ensures .0) (c .before .before .before .before .before .before .before .before .before .before .before .before .before .before .f1 .given .1) in
-    let e2 = answered (c .before .before .before .before .before .before .before .before .before .before .before .before .read-flag .ensures) (c .before .before .before .before .before .before .before .before .before .before .f2 .given .1) in
-    let e3 = answered (c .before .before .before .before .before .before .before .before .read-flag2 .ensures) (c .before .before .before .before .before .before .f3 .given .1) in
-    let e = spectrum-is _ _ _ _ _ _ _ _ _ (a .pre .2) (a .pre .4) (ended-is _ (c .before .before .read-lines .ensures) (c .enum-told4 .given .1)) in
-    rw (c .enum-told4 .given .1) (coded-lines (x .index) (windowOf (x .info)) (x .books .now) (x .s .now) (x .at) (x .end) _ _ e1 _ _ e2 _ _ e3 _ _ e)
-
-cast-apply-pulses : tie.Need-cast-apply-pulses
-cast-apply-pulses c = search needs
-
-apply-pulses-requires : tie.Need-apply-pulses-requires
-apply-pulses-requires c κs =
-    let r = c .before .before .before .before .before .before .before .before .before .before .before .before .before .before .before .before .before .before .before .before .before .read-pulses .ensures in
-    (rw (c .before .before .before .before .before .before .before .before .before .before .before .before .before .before .before .before .before .before .before .f1 .given .1) at (r .2), r .1)
-
-returns-5 : tie.Need-returns-5
-returns-5 c =
-    let a = c .before .before .before .before .before .before .before .before .before .before .before .before .before .before .before .before .before .before .before .before .before .before .before .before .before .before .before .before .before .before .before in
-    let x = a .args in
-    let e1 = pulses-is _ _ _ (c .before .before .before .before .before .before .before .before .before .before .before .before .before .before .before .before .before .before .before .before .before .before .read-pulses .ensures .0) (c .before .before .before .before .before .before .before .before .before .before .before .before .before .before .before .before .before .before .before .before .f1 .given .1) in
-    let e2 = answered (c .before .before .before .before .before .before .before .before .before .before .before .before .before .before .before .before .before .before .read-flag .ensures) (c .before .before .before .before .before .before .before .before .before .before .before .before .before .before .before .before .f2 .given .1) in
-    let e3 = answered (c .before .before .before .before .before .before .before .before .before .before .before .before .before .before .read-flag2 .ensures) (c .before .before .before .before .before .before .before .before .before .before .before .before .f3 .given .1) in
-    let e = spectrum-is _ _ _ _ _ _ _ _ _ (a .pre .2) (a .pre .4) (ended-is _ (c .before .before .before .before .before .before .before .before .read-lines .ensures) (c .before .before .before .before .before .before .r .given .1)) in
-    coded-is (x .index) (windowOf (x .info)) (x .books .now) (x .s .now) (x .at) (x .end) _ _ e1 _ _ e2 _ _ e3 _ _ e (c .apply-pulses .result) _ (c .apply-pulses .ensures (x .s .now) (x .end))
+returns c = search needs
 
 pub read-coded-spec : {M : Type 1} → statement M
 read-coded-spec =
     tie.close
     (tie.spec
-    read-pulses-requires
-    enum-known-f1
-    enum-told
-    passed-on-requires
-    returns
-    read-flag-requires
-    enum-known-f2
-    enum-told-2
-    passed-on-requires-2
-    returns-2
-    read-flag-requires-2
-    enum-known-f3
-    enum-told-3
-    passed-on-requires-3
-    returns-3
-    cast-read-lines
-    read-lines-requires
-    enum-known-r
-    enum-told-4
-    returns-4
-    cast-apply-pulses
-    apply-pulses-requires
-    returns-5)
+    part-of-requires
+    mul-read-pulsed
+    sub-read-pulsed
+    part-read-pulsed-start
+    part-read-pulsed-end
+    read-pulsed-requires
+    returns)

@@ -3,14 +3,14 @@ use native.Mathlib.Nat.{le-trans}
 use lib.Dec.{eqb}
 use Rattle.spectrum.proofs.BandLaws.{bands-most}
 use Rattle.spectrum.proofs.GroupingLaws.{groups-room}
-use Rattle.channel.specs.Answers.{windowOf}
+use Rattle.side.specs.Answers.{windowOf}
 use Rattle.channel.proofs.StreamLaws.{factors-is}
 use borrow.Author.Needs.{needs}
 use Rattle.channel.proofs.stream.read_scale_factors.Statement.{statement}
 use Rattle.channel.proofs.stream.read_scale_factors.Tie as tie
 use Rattle.channel.proofs.stream.read_scale_factors.Reads as reads
 use Rattle.channel.proofs.stream.read_scale_factors.Lts as lts
-use Rattle.channel.proofs.factors.read_factors.Reads as read-factors-reads
+use Rattle.side.proofs.factors.read_factors.Reads as read-factors-reads
 use Rattle.spectrum.proofs.grouping.groups_of.Reads as groups-of-reads
 
 groups-of-requires : tie.Need-groups-of-requires
