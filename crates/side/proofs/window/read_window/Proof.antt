@@ -147,75 +147,23 @@ returns-5 c =
 
 cast-t21 : tie.Need-cast-t21
 cast-t21 c =
-    let k5 = c .before .before .before in
-    let e5 = answered (k5 .read-grouping .ensures) (c .before .f5 .given .1) in
-    let g4 = k5 .before .before in
-    let k4 = g4 .before .before in
-    let e4 = answered (k4 .read-max-sfb .ensures) (g4 .f4 .given .1) in
-    let g3 = k4 .before .before in
-    let k3 = g3 .before .before in
-    let e3 = answered (k3 .read-field2 .ensures) (g3 .f3 .given .1) in
-    let g2 = k3 .before .before in
-    let k2 = g2 .before .before in
-    let e2 = answered (k2 .read-field .ensures) (g2 .f2 .given .1) in
-    let g1 = k2 .before .before in
-    let k1 = g1 .before .before in
-    let e1 = answered (k1 .read-flag .ensures) (g1 .f1 .given .1) in
-    omega (arith, field-below 2 _ _ _ _ _ e2)
+    let e = answered (c .before .before .before .before .before .before .before .before .before .before .before .before .before .before .before .read-field .ensures) (c .before .before .before .before .before .before .before .before .before .before .before .before .before .f2 .given .1) in
+    omega (arith, field-below 2 _ _ _ _ _ e)
 
 cast-t22 : tie.Need-cast-t22
 cast-t22 c =
-    let k5 = c .before .before .before in
-    let e5 = answered (k5 .read-grouping .ensures) (c .before .f5 .given .1) in
-    let g4 = k5 .before .before in
-    let k4 = g4 .before .before in
-    let e4 = answered (k4 .read-max-sfb .ensures) (g4 .f4 .given .1) in
-    let g3 = k4 .before .before in
-    let k3 = g3 .before .before in
-    let e3 = answered (k3 .read-field2 .ensures) (g3 .f3 .given .1) in
-    let g2 = k3 .before .before in
-    let k2 = g2 .before .before in
-    let e2 = answered (k2 .read-field .ensures) (g2 .f2 .given .1) in
-    let g1 = k2 .before .before in
-    let k1 = g1 .before .before in
-    let e1 = answered (k1 .read-flag .ensures) (g1 .f1 .given .1) in
-    omega (arith, field-below 1 _ _ _ _ _ e3)
+    let e = answered (c .before .before .before .before .before .before .before .before .before .before .before .read-field2 .ensures) (c .before .before .before .before .before .before .before .before .before .f3 .given .1) in
+    omega (arith, field-below 1 _ _ _ _ _ e)
 
 cast-t23 : tie.Need-cast-t23
 cast-t23 c =
-    let k5 = c .before .before .before in
-    let e5 = answered (k5 .read-grouping .ensures) (c .before .f5 .given .1) in
-    let g4 = k5 .before .before in
-    let k4 = g4 .before .before in
-    let e4 = answered (k4 .read-max-sfb .ensures) (g4 .f4 .given .1) in
-    let g3 = k4 .before .before in
-    let k3 = g3 .before .before in
-    let e3 = answered (k3 .read-field2 .ensures) (g3 .f3 .given .1) in
-    let g2 = k3 .before .before in
-    let k2 = g2 .before .before in
-    let e2 = answered (k2 .read-field .ensures) (g2 .f2 .given .1) in
-    let g1 = k2 .before .before in
-    let k1 = g1 .before .before in
-    let e1 = answered (k1 .read-flag .ensures) (g1 .f1 .given .1) in
-    omega (arith, max-sfb-small _ _ _ _ _ _ _ e4)
+    let e = answered (c .before .before .before .before .before .before .before .read-max-sfb .ensures) (c .before .before .before .before .before .f4 .given .1) in
+    omega (arith, max-sfb-small _ _ _ _ _ _ _ e)
 
 cast-t24 : tie.Need-cast-t24
 cast-t24 c =
-    let k5 = c .before .before .before in
-    let e5 = answered (k5 .read-grouping .ensures) (c .before .f5 .given .1) in
-    let g4 = k5 .before .before in
-    let k4 = g4 .before .before in
-    let e4 = answered (k4 .read-max-sfb .ensures) (g4 .f4 .given .1) in
-    let g3 = k4 .before .before in
-    let k3 = g3 .before .before in
-    let e3 = answered (k3 .read-field2 .ensures) (g3 .f3 .given .1) in
-    let g2 = k3 .before .before in
-    let k2 = g2 .before .before in
-    let e2 = answered (k2 .read-field .ensures) (g2 .f2 .given .1) in
-    let g1 = k2 .before .before in
-    let k1 = g1 .before .before in
-    let e1 = answered (k1 .read-flag .ensures) (g1 .f1 .given .1) in
-    omega (arith, grouping-below _ _ _ _ _ _ e5)
+    let e = answered (c .before .before .before .read-grouping .ensures) (c .before .f5 .given .1) in
+    omega (arith, grouping-below _ _ _ _ _ _ e)
 
 returns-6 : tie.Need-returns-6
 unfolding window
