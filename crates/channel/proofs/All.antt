@@ -1,0 +1,22 @@
+-- All definitions of the channel stream, open: what computes says `unfolding all`.
+use Rattle.bits.specs.Bits.{bitAt, bitsFrom}
+use Rattle.bits.specs.Field.{field, zeroBit}
+use Rattle.bits.specs.Loop.{counted}
+use Rattle.bits.specs.Places.{oneField, here}
+use Rattle.bits.specs.Payload.{ended, whole}
+use Rattle.words.specs.Words.{fits, cutOff, scan, word}
+use Rattle.words.specs.Escape.{ones, magnitude, escape}
+use Rattle.tables.specs.Words.{allCodes, allLens}
+use Rattle.spectrum.specs.Bands.{long34, short34, long67, short67, bands, bandCount, firstLine, bandWidth}
+use Rattle.spectrum.specs.Grouping.{groupsFrom, groupsAfter, groupsOf}
+use Rattle.spectrum.specs.Tuple.{spectral, dim, base, offset, digit, signed, value, escaped, tuple}
+use Rattle.spectrum.specs.Spectrum.{put, bandWord, band, windowsBand, groupBand, groupLines, spectrum}
+use Rattle.side.specs.Window.{maxSfbOf, groupingOf, window}
+use Rattle.side.specs.Sections.{increments, sectionLength, fill, section, nextSection, groupSections, widthOf, groupBooks, sections}
+use Rattle.side.specs.Factors.{factor, bandFactor, firstFactors, scaleFactors}
+use Rattle.side.specs.Pulses.{pulse, eachPulse, startBand, pulseData, pulses, pulsed, changed, applyPulse, applyPulses}
+use Rattle.channel.specs.Stream.{headOf, unpulsed, codedOf, stream}
+
+unfoldable pub all : Unit {0}
+unfolding bitAt bitsFrom field zeroBit counted oneField here ended whole fits cutOff scan word ones magnitude escape allCodes allLens long34 short34 long67 short67 bands bandCount firstLine bandWidth groupsFrom groupsAfter groupsOf spectral dim base offset digit signed value escaped tuple put bandWord band windowsBand groupBand groupLines spectrum maxSfbOf groupingOf window increments sectionLength fill section nextSection groupSections widthOf groupBooks sections factor bandFactor firstFactors scaleFactors pulse eachPulse startBand pulseData pulses pulsed changed applyPulse applyPulses headOf unpulsed codedOf stream
+all = tt

@@ -1,0 +1,6 @@
+pub mod StreamLaws
+pub mod StreamLawful
+pub mod PromiseLaws
+pub mod Demands
+pub mod All
+pub mod Examples

@@ -1,0 +1,76 @@
+use Prim.Native.Nat.{_-_, _≤_}
+use mathlib.Core.Path.{_≡_, _∙_}
+use native.Mathlib.Omega.{arith}
+use borrow.Author.Needs.{needs}
+use lib.ListN.{length, length-set}
+use lib.Seq.{take-all}
+use Rattle.bits.proofs.Copied.{copied, copied-more}
+use lib.IntN.{pos}
+use mir.Syntax.{w16}
+use mir.ValLaws.{toZ-ofZ}
+use Rattle.channel.proofs.copy_lines.Statement.{statement}
+use Rattle.channel.proofs.copy_lines.Tie as tie
+use Rattle.channel.proofs.copy_lines.Reads as reads
+use Rattle.channel.proofs.copy_lines.Lts as lts
+
+abbrev Inv-loop : tie.InvT-loop
+Inv-loop out₀ lines i₀ out i = (i ≤ 1024) × (length out ≡ length out₀) × (out ≡ copied lines out₀ i)
+
+abbrev μ-loop : tie.MeasureT-loop
+μ-loop out₀ lines i₀ out i = 1024 - i
+
+loop-holds : tie.Need-loop-holds Inv-loop μ-loop
+loop-holds c = search needs
+
+mul-out : tie.Need-mul-out Inv-loop μ-loop
+mul-out c = search needs
+
+array-copy-out-out : tie.Need-array-copy-out-out Inv-loop μ-loop
+array-copy-out-out c = search needs
+
+mul-t10 : tie.Need-mul-t10 Inv-loop μ-loop
+mul-t10 c = search needs
+
+slice-set-from-out : tie.Need-slice-set-from-out Inv-loop μ-loop
+slice-set-from-out c = search needs
+
+add-i : tie.Need-add-i Inv-loop μ-loop
+add-i c = search needs
+
+loop-less : tie.Need-loop-less Inv-loop μ-loop
+loop-less c = search needs
+
+loop-again : tie.Need-loop-again Inv-loop μ-loop
+loop-again c =
+    let a = c .before .before .before in
+    let l = c .before .before .loop in
+    let h : length (a .args .t2) ≡ 1024 = search needs in
+    (omega arith, simp length-set (l .inv .1), rw (toZ-ofZ w16 _ (record { sfits = c .out .given }), l .inv .2) (copied-more (a .args .t2) (a .args .out .now) (l .i) (pos 0) (omega arith) (omega arith)))
+
+same-length : tie.Need-same-length Inv-loop μ-loop
+same-length c = search needs
+
+returns : tie.Need-returns Inv-loop μ-loop
+returns c =
+    let a = c .before .before in
+    let l = c .before .loop in
+    let h : length (a .args .t2) ≡ 1024 = search needs in
+    let e : l .i ≡ 1024 = omega arith in
+    l .inv .2 ∙ rw (e, take-all 1024 (a .args .t2) (omega arith))
+
+pub copy-lines-spec : {M : Type 1} → statement M
+copy-lines-spec =
+    tie.close
+    (tie.spec
+    Inv-loop
+    μ-loop
+    loop-holds
+    mul-out
+    array-copy-out-out
+    mul-t10
+    slice-set-from-out
+    add-i
+    loop-less
+    loop-again
+    same-length
+    returns)

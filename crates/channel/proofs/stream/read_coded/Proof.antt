@@ -1,0 +1,48 @@
+use mathlib.Core.Path.{_≡_, _∙_, ap}
+use lib.ListN.{length}
+use Rattle.channel.proofs.StreamLaws.{edges-count}
+use borrow.Author.Needs.{needs}
+use Rattle.channel.proofs.stream.read_coded.Statement.{statement}
+use Rattle.channel.proofs.stream.read_coded.Tie as tie
+use Rattle.channel.proofs.stream.read_coded.Reads as reads
+use Rattle.channel.proofs.stream.read_coded.Lts as lts
+use Rattle.channel.proofs.stream.read_pulsed.Reads as read-pulsed-reads
+use Rattle.spectrum.proofs.bands.part_of.Reads as part-of-reads
+
+part-of-requires : tie.Need-part-of-requires
+part-of-requires c κs = search needs
+
+mul-read-pulsed : tie.Need-mul-read-pulsed
+mul-read-pulsed c = search needs
+
+sub-read-pulsed : tie.Need-sub-read-pulsed
+sub-read-pulsed c = search needs
+
+part-read-pulsed-start : tie.Need-part-read-pulsed-start
+part-read-pulsed-start c = search needs
+
+part-read-pulsed-end : tie.Need-part-read-pulsed-end
+part-read-pulsed-end c =
+    let a = c .before .before .before .before .before .before in
+    let l : length (a .args .edges .now) ≡ 129 = ap length (a .pre .2) ∙ edges-count in
+    search needs
+
+read-pulsed-requires : tie.Need-read-pulsed-requires
+read-pulsed-requires c κs =
+    let a = c .before .before .before .before .before .before .before .before in
+    (a .pre .0, a .pre .1, rw (a .pre .2) (c .before .before .part-of .ensures .0), a .pre .3, a .pre .4)
+
+returns : tie.Need-returns
+returns c = search needs
+
+pub read-coded-spec : {M : Type 1} → statement M
+read-coded-spec =
+    tie.close
+    (tie.spec
+    part-of-requires
+    mul-read-pulsed
+    sub-read-pulsed
+    part-read-pulsed-start
+    part-read-pulsed-end
+    read-pulsed-requires
+    returns)

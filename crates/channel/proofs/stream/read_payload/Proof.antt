@@ -1,0 +1,92 @@
+use Prim.Native.Nat.{_*_}
+use native.Mathlib.Omega.{arith}
+use lib.ListN.{length}
+use Rattle.bits.proofs.PayloadLaws.{whole-is, whole-refused}
+use Rattle.channel.specs.Stream.{stream}
+use Rattle.channel.proofs.PromiseLaws.{whole-long}
+use Rattle.channel.proofs.StreamLawful.{stream-lawful}
+use borrow.Author.Needs.{needs}
+use Rattle.channel.proofs.stream.read_payload.Statement.{statement}
+use Rattle.channel.proofs.stream.read_payload.Tie as tie
+use Rattle.channel.proofs.stream.read_payload.Reads as reads
+use Rattle.channel.proofs.stream.read_payload.Lts as lts
+use Rattle.channel.proofs.stream.read_stream.Reads as read-stream-reads
+use Rattle.spectrum.proofs.bands.edges.Reads as edges-reads
+use Rattle.tables.proofs.codes.Reads as codes-reads
+use Rattle.tables.proofs.lens.Reads as lens-reads
+
+codes-requires : tie.Need-codes-requires
+codes-requires c κs = search needs
+
+lens-requires : tie.Need-lens-requires
+lens-requires c κs = search needs
+
+edges-requires : tie.Need-edges-requires
+edges-requires c κs = search needs
+
+mul-end : tie.Need-mul-end
+mul-end c = search needs
+
+slice-aggregate-read-stream : tie.Need-slice-aggregate-read-stream
+slice-aggregate-read-stream c = search needs
+
+slice-aggregate-read-stream-2 : tie.Need-slice-aggregate-read-stream-2
+slice-aggregate-read-stream-2 c = search needs
+
+slice-aggregate-read-stream-3 : tie.Need-slice-aggregate-read-stream-3
+slice-aggregate-read-stream-3 c = search needs
+
+read-stream-requires : tie.Need-read-stream-requires
+read-stream-requires c κs = search needs
+
+enum-known-r : tie.Need-enum-known-r
+enum-known-r c = search needs
+
+enum-told : tie.Need-enum-told
+enum-told c = search needs
+
+returns : tie.Need-returns
+returns c =
+    let x = c .before .before .before .before .before .before .before .before .before .before .before .before .before .args in
+    rw (c .enum-told .given .1)
+    (whole-refused (stream (x .index)) (x .s .now) _ _ (rw (c .enum-told .given .1) at (c .before .before .read-stream .ensures)))
+
+sub-if1 : tie.Need-sub-if1
+sub-if1 c =
+    let x = c .before .before .before .before .before .before .before .before .before .before .before .before .before .before .args in
+    let e = rw (c .before .r .given .1) at (c .before .before .before .read-stream .ensures) in
+    let w = stream-lawful (x .index) .within (x .s .now) 0 (8 * length (x .s .now)) _ _ (omega arith) (e .2) in
+    w .1
+
+returns-2 : tie.Need-returns-2
+returns-2 c =
+    let x = c .before .before .before .before .before .before .before .before .before .before .before .before .before .before .before .args in
+    let e = rw (c .before .before .r .given .1) at (c .before .before .before .before .read-stream .ensures) in
+    let w = stream-lawful (x .index) .within (x .s .now) 0 (8 * length (x .s .now)) _ _ (omega arith) (e .2) in
+    whole-long (stream (x .index)) (x .s .now) _ _ (e .2) (c .if1 .taken)
+
+returns-3 : tie.Need-returns-3
+returns-3 c =
+    let x = c .before .before .before .before .before .before .before .before .before .before .before .before .before .before .before .args in
+    let e = rw (c .before .before .r .given .1) at (c .before .before .before .before .read-stream .ensures) in
+    let w = stream-lawful (x .index) .within (x .s .now) 0 (8 * length (x .s .now)) _ _ (omega arith) (e .2) in
+    (e .0, e .1, whole-is (stream (x .index)) (x .s .now) _ _ (e .2) (c .if1 .left))
+
+pub read-payload-spec : {M : Type 1} → statement M
+read-payload-spec =
+    tie.close
+    (tie.spec
+    codes-requires
+    lens-requires
+    edges-requires
+    mul-end
+    slice-aggregate-read-stream
+    slice-aggregate-read-stream-2
+    slice-aggregate-read-stream-3
+    read-stream-requires
+    enum-known-r
+    enum-told
+    returns
+    sub-if1
+    returns-2
+    returns-3)

@@ -1,0 +1,22 @@
+use mathlib.Core.Path.{sym, ap}
+use Rattle.channel.specs.Answers.{openRefusal}
+use borrow.Author.Needs.{needs}
+use Rattle.channel.proofs.stream.refusal.Statement.{statement}
+use Rattle.channel.proofs.stream.refusal.Tie as tie
+use Rattle.channel.proofs.stream.refusal.Reads as reads
+use Rattle.channel.proofs.stream.refusal.Lts as lts
+
+enum-known-r : tie.Need-enum-known-r
+enum-known-r c = search needs
+
+enum-known-r-2 : tie.Need-enum-known-r-2
+enum-known-r-2 c = search needs
+
+returns : tie.Need-returns
+returns c = sym (ap openRefusal (c .before .r .given .1))
+
+returns-2 : tie.Need-returns-2
+returns-2 c = sym (ap openRefusal (c .before .r2 .given .1))
+
+pub refusal-spec : {M : Type 1} → statement M
+refusal-spec = tie.close (tie.spec enum-known-r enum-known-r-2 returns returns-2)

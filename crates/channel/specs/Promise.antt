@@ -1,0 +1,69 @@
+-- What is promised of a call: its answer, and what the lent outputs hold afterwards.
+use Prim.Native.Nat.{ℕ}
+use mathlib.Core.List.{List, _++_}
+use mathlib.Core.Bool.{Bool, _&&_, _||_}
+use lib.Dec.{eqb, leb}
+use lib.IntN.{ℤ}
+use lib.ListN.{length, drop, replicate}
+use Rattle.bits.specs.Reader.{Answer, got, refused, pick}
+use Rattle.bits.specs.Payload.{inBuffer, range, whole}
+use Rattle.spectrum.specs.Grouping.{inEight}
+use Rattle.side.specs.Window.{groups}
+use Rattle.channel.specs.Stream.{Head, Stream, stream}
+use Rattle.channel.specs.declared.Reading.{Reading}
+
+-- the sampling indices that have bands
+abbrev pub known : ℕ → Bool
+known index = eqb index 3 || eqb index 4 || eqb index 6 || eqb index 7
+
+-- what is judged before any bit, of a buffer and lent outputs of so many places: 1 for the range, 2 for an output that is too short, 3 for
+-- the index; 0 where all is well
+unfoldable pub judged : ℕ → ℕ → ℕ → ℕ → ℕ → ℕ → ℕ → ℕ
+judged size start end index lines factors books =
+    pick (inBuffer start end size) (pick (leb 1024 lines && leb 120 factors && leb 120 books) (pick (known index) 0 3) 2) 1
+
+-- the stream in a range of a buffer, or what refuses it
+unfoldable pub channel : List ℕ → ℕ → ℕ → ℕ → ℕ → ℕ → ℕ → Answer Stream
+channel buf start end index lines factors books =
+    pick (eqb (judged (length buf) start end index lines factors books) 0)
+    (whole (stream index) (range buf start end))
+    (refused (judged (length buf) start end index lines factors books) 0)
+
+-- the answer to a refusal: every other number is 0
+abbrev pub refusal : ℕ → Reading
+refusal n =
+    record { number = n; gain = 0; sequence = 0; shape = 0; «max_sfb» = 0; «group_count» = 0; groups = replicate 8 0; bits = 0 }
+
+-- the answer to a stream that begins so, and the bits that it used
+abbrev pub accepted : Head → ℕ → Reading
+accepted h bits =
+    record {
+      number = 0;
+      gain = h .gain;
+      sequence = h .info .sequence;
+      shape = h .info .shape;
+      «max_sfb» = h .info .maxSfb;
+      «group_count» = length (groups (h .info));
+      groups = inEight (groups (h .info));
+      bits = bits;
+    }
+
+-- the answer of a call
+abbrev pub readingOf : Answer Stream → Reading
+readingOf (got x next) = accepted (x .head) next
+readingOf (refused n place) = refusal n
+
+-- the lent lines after a call: 1,024 are written, or none
+abbrev pub linesAfter : Answer Stream → List ℤ → List ℤ
+linesAfter (got x next) old = x .coded .lines ++ drop 1024 old
+linesAfter (refused n place) old = old
+
+-- the lent scale factors after a call: 120 are written, or none
+abbrev pub factorsAfter : Answer Stream → List ℕ → List ℕ
+factorsAfter (got x next) old = x .factors ++ drop 120 old
+factorsAfter (refused n place) old = old
+
+-- the lent books after a call: 120 are written, or none
+abbrev pub booksAfter : Answer Stream → List ℕ → List ℕ
+booksAfter (got x next) old = x .books ++ drop 120 old
+booksAfter (refused n place) old = old

@@ -1,0 +1,61 @@
+-- A channel stream.
+use Prim.Native.Nat.{ℕ}
+use mathlib.Core.List.{List}
+use lib.IntN.{ℤ}
+use Rattle.bits.specs.Reader.{Reader, give, _>>=_}
+use Rattle.bits.specs.Field.{field, zeroBit}
+use Rattle.spectrum.specs.Bands.{bands}
+use Rattle.spectrum.specs.Spectrum.{spectrum}
+use Rattle.side.specs.Window.{Window, isShort, groups, window}
+use Rattle.side.specs.Sections.{sections}
+use Rattle.side.specs.Factors.{scaleFactors}
+use Rattle.side.specs.Pulses.{Pulses, pulses, applyPulses}
+
+-- global_gain and the window information
+pub record Head : Type 0 where
+  pub gain : ℕ
+  pub info : Window
+
+-- the pulses, and the lines before and after them
+pub record Coded : Type 0 where
+  pub pulses : Pulses
+  pub before : List ℤ
+  pub lines : List ℤ
+
+-- books and scale factors stand at group times max_sfb plus band
+pub record Stream : Type 0 where
+  pub head : Head
+  pub books : List ℕ
+  pub factors : List ℕ
+  pub coded : Coded
+
+-- global_gain; then the window information
+unfoldable pub headOf : ℕ → Reader Head
+headOf index = do
+  gain ← field 8
+  info ← window index
+  give (record { gain = gain; info = info })
+
+-- no TNS and no gain control, or 20; then the spectrum
+unfoldable pub unpulsed : ℕ → Window → List ℕ → Reader (List ℤ)
+unpulsed index w books = do
+  tns ← zeroBit 20
+  control ← zeroBit 20
+  spectrum (bands index (isShort w)) (w .maxSfb) books (groups w)
+
+-- pulses; flags and spectrum; then the pulses are applied
+unfoldable pub codedOf : ℕ → Window → List ℕ → Reader Coded
+codedOf index w books = do
+  ps ← pulses index (isShort w)
+  before ← unpulsed index w books
+  lines ← applyPulses ps before
+  give (record { pulses = ps; before = before; lines = lines })
+
+-- of a sampling index, 3, 4, 6 or 7
+unfoldable pub stream : ℕ → Reader Stream
+stream index = do
+  head ← headOf index
+  books ← sections (head .info)
+  factors ← scaleFactors (head .gain) (head .info) books
+  coded ← codedOf index (head .info) books
+  give (record { head = head; books = books; factors = factors; coded = coded })

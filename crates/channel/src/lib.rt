@@ -1,0 +1,182 @@
+// One AAC channel stream: read whole from a range of a lent buffer.
+ghost use mathlib.Core.Path.{_≡_};
+ghost use mathlib.Core.List.{_++_};
+ghost use Prim.Native.Nat.{_*_, _≤_, _<_, _^_};
+ghost use lib.ListN.{length, drop};
+ghost use Rattle.bits.specs.Payload.{whole};
+ghost use Rattle.channel.specs.Answers.{headIn};
+ghost use Rattle.channel.specs.Stream.{stream};
+ghost use Rattle.channel.specs.Promise.{judged, refusal, accepted, channel, readingOf, linesAfter, factorsAfter, booksAfter};
+use crate::stream::Opened;
+use crate::stream::Opening;
+
+mod stream;
+
+// What a call found: 0 and the numbers of a stream, with the windows of each group and the bits used; or a refusal's number.
+pub struct Reading {
+    pub number: u8,
+    pub gain: u8,
+    pub sequence: u8,
+    pub shape: u8,
+    pub max_sfb: u8,
+    pub group_count: u8,
+    pub groups: [u8; 8],
+    pub bits: usize,
+}
+
+// What is judged before any bit is read: a refusal's number, or 0.
+fn judge(
+    size: usize,
+    start: usize,
+    end: usize,
+    index: u8,
+    lines: usize,
+    factors: usize,
+    books: usize,
+) -> u8
+    ensures { λ r. ⌜ r ≡ judged size start end index lines factors books ⌝ }
+{
+    if end < start {
+        return 1;
+    }
+    if size < end {
+        return 1;
+    }
+    if lines < 1024 {
+        return 2;
+    }
+    if factors < 120 {
+        return 2;
+    }
+    if books < 120 {
+        return 2;
+    }
+    match index {
+        3 => 0,
+        4 => 0,
+        6 => 0,
+        7 => 0,
+        _ => 3,
+    }
+}
+
+// The answer to a refusal.
+fn refused(number: u8) -> Reading
+    ensures { λ r. ⌜ r ≡ refusal number ⌝ }
+{
+    Reading {
+        number,
+        gain: 0,
+        sequence: 0,
+        shape: 0,
+        max_sfb: 0,
+        group_count: 0,
+        groups: [0u8; 8],
+        bits: 0,
+    }
+}
+
+// The answer to a stream that begins so.
+fn answer(opening: Opening, bits: usize) -> Reading
+    ensures { λ r. ⌜ r ≡ accepted (headIn opening) bits ⌝ }
+{
+    let info = opening.info;
+    let found = spectrum::grouping::groups_of(info.sequence == 2, info.grouping);
+    let windows = found.windows;
+    Reading {
+        number: 0,
+        gain: opening.gain,
+        sequence: info.sequence,
+        shape: info.shape,
+        max_sfb: info.sfbs,
+        group_count: found.count as u8,
+        groups: windows,
+        bits,
+    }
+}
+
+// The lines are copied to the front of a lent output.
+fn copy_lines(out: &mut [i16], lines: [i16; 1024])
+    requires { ⌜ 1024 ≤ length (now out) ⌝ }
+    ensures { λ _. ⌜ now (out .exit) ≡ lines ++ drop 1024 (now (out .entry)) ⌝ }
+{
+    let mut i = 0;
+    while i < 1024 {
+        out[i] = lines[i];
+        i += 1;
+    }
+}
+
+// A number for each band is copied to the front of a lent output.
+fn copy_bands(out: &mut [u8], bands: [u8; 120])
+    requires { ⌜ 120 ≤ length (now out) ⌝ }
+    ensures { λ _. ⌜ now (out .exit) ≡ bands ++ drop 120 (now (out .entry)) ⌝ }
+{
+    let mut i = 0;
+    while i < 120 {
+        out[i] = bands[i];
+        i += 1;
+    }
+}
+
+// The channel stream in a slice: its lines, scale factors and books are written to the front of the lent outputs where it is accepted.
+fn read_slice(
+    s: &[u8],
+    index: u8,
+    lines: &mut [i16],
+    factors: &mut [u8],
+    books: &mut [u8],
+) -> Reading
+    requires { ⌜ (length (now s) < 2 ^ 32) × (1024 ≤ length (now lines)) × (120 ≤ length (now factors)) × (120 ≤ length (now books)) ⌝ }
+    ensures { λ r. ⌜ r ≡ readingOf (whole (stream index) (now (s .entry))) ⌝ }
+    ensures { λ r. ⌜ now (lines .exit) ≡ linesAfter (whole (stream index) (now (s .entry))) (now (lines .entry)) ⌝ }
+    ensures { λ r. ⌜ now (factors .exit) ≡ factorsAfter (whole (stream index) (now (s .entry))) (now (factors .entry)) ⌝ }
+    ensures { λ r. ⌜ now (books .exit) ≡ booksAfter (whole (stream index) (now (s .entry))) (now (books .entry)) ⌝ }
+{
+    let mut band_books = [0u8; 120];
+    let mut band_factors = [0u8; 120];
+    let mut all_lines = [0i16; 1024];
+    let r = stream::read_payload(s, index, &mut band_books, &mut band_factors, &mut all_lines);
+    match r {
+        Opened::Read(opening, bits) => {
+            copy_lines(lines, all_lines);
+            copy_bands(factors, band_factors);
+            copy_bands(books, band_books);
+            answer(opening, bits)
+        }
+        Opened::Refused(number, _) => refused(number),
+    }
+}
+
+// The channel stream in the bytes from start to end of a buffer, for a sampling index: its lines, scale factors and books are written to
+// the front of the lent outputs where it is accepted.
+pub fn read_channel(
+    buf: &[u8],
+    start: u32,
+    end: u32,
+    index: u8,
+    lines: &mut [i16],
+    factors: &mut [u8],
+    books: &mut [u8],
+) -> Reading
+    ensures { λ r. ⌜ r ≡ readingOf (channel (now (buf .entry)) start end index (length (now (lines .entry))) (length (now (factors .entry))) (length (now (books .entry)))) ⌝ }
+    ensures { λ r. ⌜ now (lines .exit) ≡ linesAfter (channel (now (buf .entry)) start end index (length (now (lines .entry))) (length (now (factors .entry))) (length (now (books .entry)))) (now (lines .entry)) ⌝ }
+    ensures { λ r. ⌜ now (factors .exit) ≡ factorsAfter (channel (now (buf .entry)) start end index (length (now (lines .entry))) (length (now (factors .entry))) (length (now (books .entry)))) (now (factors .entry)) ⌝ }
+    ensures { λ r. ⌜ now (books .exit) ≡ booksAfter (channel (now (buf .entry)) start end index (length (now (lines .entry))) (length (now (factors .entry))) (length (now (books .entry)))) (now (books .entry)) ⌝ }
+{
+    let first = start as usize;
+    let last = end as usize;
+    let number = judge(
+        buf.len(),
+        first,
+        last,
+        index,
+        lines.len(),
+        factors.len(),
+        books.len(),
+    );
+    if number != 0 {
+        return refused(number);
+    }
+    read_slice(&buf[first..last], index, lines, factors, books)
+}

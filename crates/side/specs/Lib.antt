@@ -1,0 +1,5 @@
+pub mod Window
+pub mod Sections
+pub mod Factors
+pub mod Pulses
+pub mod Answers

@@ -1,0 +1,5 @@
+pub mod BandLaws
+pub mod GroupingLaws
+pub mod TupleLaws
+pub mod SpectrumLaws
+pub mod SpectrumLawful

@@ -1,0 +1,4 @@
+pub mod Bands
+pub mod Grouping
+pub mod Tuple
+pub mod Spectrum
