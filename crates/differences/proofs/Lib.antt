@@ -3,3 +3,4 @@ pub mod IndexLaws
 pub mod ArrayLaws
 pub mod RowLaws
 pub mod HeldLaws
+pub mod ReadingLaws
