@@ -1,0 +1,27 @@
+use mathlib.Core.Path.{_≡_, sym, _∙_}
+use Rattle.differences.specs.Held.{soundHeld}
+use Rattle.differences.proofs.KindLaws.{not-true, not-false}
+use borrow.Author.Needs.{needs}
+use Rattle.differences.proofs.records.is_sound.Statement.{statement}
+use Rattle.differences.proofs.records.is_sound.Tie as tie
+use Rattle.differences.proofs.records.is_sound.Reads as reads
+use Rattle.differences.proofs.records.is_sound.Lts as lts
+use Rattle.differences.proofs.records.is_mode.Reads as is-mode-reads
+use Rattle.differences.proofs.records.sound_indices.Reads as sound-indices-reads
+
+is-mode-requires : tie.Need-is-mode-requires
+is-mode-requires c κs = search needs
+
+returns : tie.Need-returns
+unfolding soundHeld
+returns c = rw (sym (c .before .is-mode .ensures) ∙ not-true _ (c .if1 .taken))
+
+sound-indices-requires : tie.Need-sound-indices-requires
+sound-indices-requires c κs = search needs
+
+returns-2 : tie.Need-returns-2
+unfolding soundHeld
+returns-2 c = c .sound-indices .ensures ∙ rw (sym (c .before .before .before .is-mode .ensures) ∙ not-false _ (c .before .before .if1 .left))
+
+pub is-sound-spec : {M : Type 1} → statement M
+is-sound-spec = tie.close (tie.spec is-mode-requires returns sound-indices-requires returns-2)

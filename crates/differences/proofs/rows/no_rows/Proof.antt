@@ -1,0 +1,17 @@
+use Rattle.differences.specs.Rows.{noRows}
+use borrow.Author.Needs.{needs}
+use Rattle.differences.proofs.rows.no_rows.Statement.{statement}
+use Rattle.differences.proofs.rows.no_rows.Tie as tie
+use Rattle.differences.proofs.rows.no_rows.Reads as reads
+use Rattle.differences.proofs.rows.no_rows.Lts as lts
+use Rattle.differences.proofs.rows.no_row.Reads as no-row-reads
+
+no-row-requires : tie.Need-no-row-requires
+no-row-requires c κs = search needs
+
+returns : tie.Need-returns
+unfolding noRows
+returns c = rw (c .no-row .ensures)
+
+pub no-rows-spec : {M : Type 1} → statement M
+no-rows-spec = tie.close (tie.spec no-row-requires returns)

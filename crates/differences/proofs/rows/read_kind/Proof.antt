@@ -1,0 +1,26 @@
+use mathlib.Core.Path.{_∙_}
+use Rattle.differences.specs.Rows.{rows}
+use borrow.Author.Needs.{needs}
+use Rattle.differences.proofs.rows.read_kind.Statement.{statement}
+use Rattle.differences.proofs.rows.read_kind.Tie as tie
+use Rattle.differences.proofs.rows.read_kind.Reads as reads
+use Rattle.differences.proofs.rows.read_kind.Lts as lts
+use Rattle.differences.proofs.rows.no_rows.Reads as no-rows-reads
+use Rattle.differences.proofs.rows.read_rows.Reads as read-rows-reads
+
+read-rows-requires : tie.Need-read-rows-requires
+read-rows-requires c κs = search needs
+
+returns : tie.Need-returns
+unfolding rows
+returns c = c .read-rows .ensures ∙ rw (c .before .if1 .taken)
+
+no-rows-requires : tie.Need-no-rows-requires
+no-rows-requires c κs = search needs
+
+returns-2 : tie.Need-returns-2
+unfolding rows
+returns-2 c = rw (c .before .if1 .left, c .no-rows .ensures)
+
+pub read-kind-spec : {M : Type 1} → statement M
+read-kind-spec = tie.close (tie.spec read-rows-requires returns no-rows-requires returns-2)

@@ -1,0 +1,73 @@
+use Rattle.differences.proofs.KindLaws.{not-true, not-false}
+use mathlib.Core.Path.{_≡_, sym, _∙_}
+use mathlib.Core.Bool.{true, false}
+use borrow.Author.Tests.{eq-eqb, ne-eqb}
+use Rattle.bits.proofs.Taken.{answered}
+use Rattle.differences.proofs.RowLaws.{row-refused, row-31, row-rest}
+use borrow.Author.Needs.{needs}
+use Rattle.differences.proofs.rows.read_row.Statement.{statement}
+use Rattle.differences.proofs.rows.read_row.Tie as tie
+use Rattle.differences.proofs.rows.read_row.Reads as reads
+use Rattle.differences.proofs.rows.read_row.Lts as lts
+use Rattle.bits.proofs.read_field.Reads as read-field-reads
+use Rattle.differences.proofs.indices.read_indices.Reads as read-indices-reads
+use Rattle.differences.proofs.rows.allowed.Reads as allowed-reads
+use Rattle.differences.proofs.rows.refused_row.Reads as refused-row-reads
+
+read-field-requires : tie.Need-read-field-requires
+read-field-requires c κs = search needs
+
+enum-known-time : tie.Need-enum-known-time
+enum-known-time c = search needs
+
+allowed-requires : tie.Need-allowed-requires
+allowed-requires c κs = search needs
+
+refused-row-requires : tie.Need-refused-row-requires
+refused-row-requires c κs = search needs
+
+returns : tie.Need-returns
+returns c =
+    let w = c .before .before in
+    let t = w .before .before in
+    let f = t .before .before in
+    c .refused-row .ensures ∙ row-31 _ _ _ _ _ _ _ _ (answered (f .read-field .ensures) (t .time .given .1)) (sym (w .allowed .ensures) ∙ not-true _ (c .before .if1 .taken))
+
+read-indices-requires : tie.Need-read-indices-requires
+read-indices-requires c κs = search needs
+
+enum-known-number : tie.Need-enum-known-number
+enum-known-number c = search needs
+
+refused-row-requires-2 : tie.Need-refused-row-requires-2
+refused-row-requires-2 c κs = search needs
+
+returns-2 : tie.Need-returns-2
+returns-2 c =
+    let w = c .before .before .before .before in
+    let t = w .before .before in
+    let f = t .before .before in
+    let r = c .before .read-indices in
+    row-rest _ _ _ _ _ _ _ _ (answered (f .read-field .ensures) (t .time .given .1)) (sym (w .allowed .ensures) ∙ not-false _ (c .before .before .before .if1 .left))
+    (r .result .ended) (r .result .indices) (r .ensures)
+
+returns-3 : tie.Need-returns-3
+returns-3 c =
+    let t = c .before .before in
+    let f = t .before .before in
+    c .refused-row2 .ensures ∙ row-refused _ _ _ _ _ _ _ _ (answered (f .read-field .ensures) (t .number .given .1))
+
+pub read-row-spec : {M : Type 1} → statement M
+read-row-spec =
+    tie.close
+    (tie.spec
+    read-field-requires
+    enum-known-time
+    allowed-requires
+    refused-row-requires
+    returns
+    read-indices-requires
+    enum-known-number
+    refused-row-requires-2
+    returns-2
+    returns-3)

@@ -1,0 +1,11 @@
+-- What the code's answers mean.
+use Prim.Native.Nat.{ℕ}
+use lib.IntN.{ℤ}
+use Rattle.bits.specs.Reader.{Answer, got, refused}
+use Rattle.differences.specs.declared.Index.{Index}
+use Rattle.differences.specs.declared.Index.the-variants.{To, Refused}
+
+-- an index
+abbrev pub indexAnswer : Index → Answer ℤ
+indexAnswer (To x next) = got x next
+indexAnswer (Refused n place) = refused n place

@@ -1,0 +1,123 @@
+-- The bench examples of document 01, the faults a bench has shown, and payloads of a published run, computed.
+-- Assumes nothing.
+use Prim.Native.Nat.{ℕ, _-_}
+use mathlib.Core.Path.{_≡_, refl}
+use mathlib.Core.List.{List, [], _∷_, _++_}
+use mathlib.Core.Bool.{Bool, true, false}
+use lib.ListN.{length, replicate}
+use lib.IntN.{ℤ, pos, negsuc}
+use Rattle.bits.specs.Reader.{got, refused}
+use Rattle.differences.specs.Held.{none, held}
+use Rattle.differences.specs.Indices.{padded, index}
+use Rattle.differences.specs.Rows.{noRows, noRow}
+use Rattle.differences.specs.declared.Kind.the-variants.{Iid, Icc, Ipd}
+use Rattle.differences.specs.declared.Held.{Held}
+use Rattle.differences.specs.declared.Row.{Row}
+use Rattle.stereo.specs.State.{freshSetup, fresh, lost}
+use Rattle.stereo.specs.Header.{noHeader}
+use Rattle.stereo.specs.Frame.{noFrame, noBorders}
+use Rattle.stereo.specs.Extension.{noPart, noExtension}
+use Rattle.stereo.specs.Payload.{noContents}
+use Rattle.stereo.specs.Stereo.{refusal, readFrom}
+use Rattle.stereo.specs.declared.Header.{Header}
+use Rattle.stereo.specs.declared.Frame.{Frame}
+use Rattle.stereo.specs.declared.State.{State}
+use Rattle.stereo.specs.declared.Contents.{Contents}
+use Rattle.stereo.specs.declared.Reading.{Reading}
+use Rattle.stereo.proofs.All.{all}
+
+-- 34 indices, a row across frequency or time, and a record
+abbrev row : ℕ → List ℤ → Row
+row time xs = record { time = time; indices = padded 34 (pos 0) xs }
+
+abbrev kept : ℕ → List ℤ → Held
+kept mode xs = held mode (padded 34 (pos 0) xs)
+
+-- ICC enabled in a mode, with its record
+abbrev withIcc : ℕ → Held → State
+withIcc mode h = record { setup = record { iid = false; icc = true; ext = false; iidmode = 7; iccmode = mode }; iid = none; icc = h; ipd = none; opd = none; instep = true }
+
+-- IID enabled in a mode, with a record
+abbrev withIid : ℕ → Held → State
+withIid mode h = record { setup = record { iid = true; icc = false; ext = false; iidmode = mode; iccmode = 7 }; iid = h; icc = none; ipd = none; opd = none; instep = true }
+
+-- the extension enabled, and nothing else
+abbrev withExtension : State
+withExtension = record { setup = record { iid = false; icc = false; ext = true; iidmode = 7; iccmode = 7 }; iid = none; icc = none; ipd = none; opd = none; instep = true }
+
+abbrev accepted : ℕ → Contents → State → Reading
+accepted bits c st = record { number = 0; bits = bits; contents = c; state = st }
+
+abbrev five : List ℤ
+five = pos 5 ∷ pos 5 ∷ pos 5 ∷ pos 5 ∷ pos 5 ∷ pos 5 ∷ pos 5 ∷ pos 5 ∷ pos 5 ∷ pos 5 ∷ pos 5 ∷ []
+
+-- fresh, 00: no envelopes, 4 bits
+fresh-00 : readFrom fresh (0 ∷ []) 0 1 ≡ accepted 4 noContents fresh
+unfolding all
+fresh-00 = refl
+
+-- 00 00: 12
+fresh-0000 : readFrom fresh (0 ∷ 0 ∷ []) 0 2 ≡ refusal 12 (lost fresh)
+unfolding all
+fresh-0000 = refl
+
+-- out of step, 00: 35; and 00 00: 12 still
+lost-00 : (readFrom (lost fresh) (0 ∷ []) 0 1 ≡ refusal 35 (lost fresh)) × (readFrom (lost fresh) (0 ∷ 0 ∷ []) 0 2 ≡ refusal 12 (lost fresh))
+unfolding all
+lost-00 = (refl, refl)
+
+-- empty: 10
+empty-10 : readFrom fresh [] 0 0 ≡ refusal 10 (lost fresh)
+unfolding all
+empty-10 = refl
+
+-- bits 11110 first: 13 (IID mode 6)
+mode-6 : readFrom fresh (240 ∷ []) 0 1 ≡ refusal 13 (lost fresh)
+unfolding all
+mode-6 = refl
+
+-- fresh, 90 00: 11 bits used, extension empty
+fresh-9000 : readFrom fresh (144 ∷ 0 ∷ []) 0 2 ≡ accepted 11 (record {
+  header = record { there = 1; iid = 0; iidmode = 0; icc = 0; iccmode = 0; ext = 1 };
+  frame = noFrame;
+  iid = noRows;
+  icc = noRows;
+  extension = record { there = 1; size = 0; esc = 0; part = noPart };
+}) withExtension
+unfolding all
+fresh-9000 = refl
+
+-- phase 6, difference 5: 3
+phase-6 : index Ipd 0 1 (padded 34 (pos 0) (pos 6 ∷ [])) [] (0 ∷ []) 0 8 ≡ got (pos 3) 4
+unfolding all
+phase-6 = refl
+
+-- IID mode 0, index 7, difference +1: 32; and coherence is not taken modulo 8
+index-7 : (index Iid 0 1 (padded 34 (pos 0) (pos 7 ∷ [])) [] (192 ∷ []) 0 8 ≡ refused 32 0) × (index Icc 0 1 (padded 34 (pos 0) (pos 7 ∷ [])) [] (128 ∷ []) 0 8 ≡ refused 32 0)
+unfolding all
+index-7 = (refl, refl)
+
+-- time coding where the new mode came in an earlier payload with no envelopes: 31
+time-31 : readFrom (withIid 1 (kept 0 (pos 7 ∷ []))) (24 ∷ []) 0 1 ≡ refusal 31 (lost (withIid 1 (kept 0 (pos 7 ∷ []))))
+unfolding all
+time-31 = refl
+
+-- a range outside the buffer: 1, before an unsound state: 4
+order-1-4 : (readFrom (withIid 7 none) (0 ∷ []) 0 2 ≡ refusal 1 (withIid 7 none)) × (readFrom (withIid 7 none) (0 ∷ []) 0 1 ≡ refusal 4 (withIid 7 none))
+unfolding all
+order-1-4 = (refl, refl)
+
+-- a published run: the second payload, and the fourth after it
+abbrev second : List ℕ
+second = 164 ∷ 95 ∷ 224 ∷ 3 ∷ 255 ∷ 128 ∷ 0 ∷ []
+
+published : (readFrom fresh second 0 7 ≡ accepted 50 (record {
+  header = record { there = 1; iid = 0; iidmode = 0; icc = 1; iccmode = 1; ext = 0 };
+  frame = record { class = 0; envelopes = 1; borders = noBorders };
+  iid = noRows;
+  icc = row 0 five ∷ noRow ∷ noRow ∷ noRow ∷ [];
+  extension = noExtension;
+}) (withIcc 1 (kept 1 five)))
+    × (readFrom (withIcc 1 (kept 1 five)) (0 ∷ []) 0 1 ≡ accepted 4 noContents (withIcc 1 (kept 1 five)))
+unfolding all
+published = (refl, refl)

@@ -1,0 +1,12 @@
+pub mod ReadLaws
+pub mod HeaderLaws
+pub mod FrameLaws
+pub mod ExtensionLaws
+pub mod ContentsLaws
+pub mod TurnLaws
+pub mod NearLaws
+pub mod PayloadLaws
+pub mod PayloadNear
+pub mod BytesLaws
+pub mod All
+pub mod Examples

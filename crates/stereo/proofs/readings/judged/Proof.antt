@@ -1,0 +1,43 @@
+use mathlib.Core.Path.{_≡_, sym, _∙_}
+use Rattle.stereo.specs.Stereo.{taken}
+use Rattle.differences.proofs.KindLaws.{not-true, not-false}
+use borrow.Author.Needs.{needs}
+use Rattle.stereo.proofs.readings.judged.Statement.{statement}
+use Rattle.stereo.proofs.readings.judged.Tie as tie
+use Rattle.stereo.proofs.readings.judged.Reads as reads
+use Rattle.stereo.proofs.readings.judged.Lts as lts
+use Rattle.stereo.proofs.readings.is_accepted.Reads as is-accepted-reads
+use Rattle.stereo.proofs.readings.read_from.Reads as read-from-reads
+use Rattle.stereo.proofs.readings.refused_at.Reads as refused-at-reads
+use Rattle.stereo.proofs.turns.carried.Reads as carried-reads
+
+is-accepted-requires : tie.Need-is-accepted-requires
+is-accepted-requires c κs = search needs
+
+refused-at-requires : tie.Need-refused-at-requires
+refused-at-requires c κs = search needs
+
+returns : tie.Need-returns
+unfolding taken
+returns c = c .refused-at .ensures ∙ rw (sym (c .before .before .is-accepted .ensures) ∙ not-true _ (c .before .if1 .taken))
+
+read-from-requires : tie.Need-read-from-requires
+read-from-requires c κs = search needs
+
+carried-requires : tie.Need-carried-requires
+carried-requires c κs = search needs
+
+returns-2 : tie.Need-returns-2
+unfolding taken
+returns-2 c = rw (c .carried .ensures, c .before .read-from .ensures, sym (c .before .before .before .is-accepted .ensures) ∙ not-false _ (c .before .before .if1 .left))
+
+pub judged-spec : {M : Type 1} → statement M
+judged-spec =
+    tie.close
+    (tie.spec
+    is-accepted-requires
+    refused-at-requires
+    returns
+    read-from-requires
+    carried-requires
+    returns-2)

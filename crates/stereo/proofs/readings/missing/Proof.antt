@@ -1,0 +1,27 @@
+use mathlib.Core.Path.{_≡_, sym, _∙_}
+use Rattle.stereo.specs.Stereo.{missing}
+use Rattle.differences.proofs.KindLaws.{not-true, not-false}
+use borrow.Author.Needs.{needs}
+use Rattle.stereo.proofs.readings.missing.Statement.{statement}
+use Rattle.stereo.proofs.readings.missing.Tie as tie
+use Rattle.stereo.proofs.readings.missing.Reads as reads
+use Rattle.stereo.proofs.readings.missing.Lts as lts
+use Rattle.stereo.proofs.states.is_sound.Reads as is-sound-reads
+use Rattle.stereo.proofs.states.lost.Reads as lost-reads
+
+is-sound-requires : tie.Need-is-sound-requires
+is-sound-requires c κs = search needs
+
+returns : tie.Need-returns
+unfolding missing
+returns c = rw (sym (c .before .is-sound .ensures) ∙ not-true _ (c .if1 .taken))
+
+lost-requires : tie.Need-lost-requires
+lost-requires c κs = search needs
+
+returns-2 : tie.Need-returns-2
+unfolding missing
+returns-2 c = rw (sym (c .before .before .is-sound .ensures) ∙ not-false _ (c .before .if1 .left), c .lost .ensures)
+
+pub missing-spec : {M : Type 1} → statement M
+missing-spec = tie.close (tie.spec is-sound-requires returns lost-requires returns-2)
