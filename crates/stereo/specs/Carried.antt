@@ -1,0 +1,46 @@
+-- The state after a payload that was read.
+use Prim.Native.Nat.{ℕ, _-_}
+use mathlib.Core.List.{List}
+use mathlib.Core.Bool.{Bool, true}
+use lib.Dec.{eqb}
+use lib.IntN.{ℤ}
+use lib.ListN.{getD}
+use Rattle.bits.specs.Reader.{pick}
+use Rattle.differences.specs.Held.{held, none}
+use Rattle.differences.specs.Rows.{noRow}
+use Rattle.differences.specs.declared.Held.{Held}
+use Rattle.differences.specs.declared.Row.{Row}
+use Rattle.stereo.specs.Header.{setupAfter}
+use Rattle.stereo.specs.Extension.{noPhases}
+use Rattle.stereo.specs.declared.Setup.{Setup}
+use Rattle.stereo.specs.declared.State.{State}
+use Rattle.stereo.specs.declared.Phases.{Phases}
+use Rattle.stereo.specs.declared.Contents.{Contents}
+
+-- a kind's record: not enabled, none; with no envelopes, it stays; else the last envelope's indices
+unfoldable pub recordAfter : Bool → ℕ → Held → ℕ → List ℤ → Held
+recordAfter on mode h n xs = pick on (pick (eqb n 0) h (held mode xs)) none
+
+-- the indices of the last of n envelopes
+abbrev pub lastRow : ℕ → List Row → List ℤ
+lastRow n rs = getD rs (n - 1) noRow .indices
+
+-- the phases of the last of n envelopes
+abbrev pub lastPhases : ℕ → List Phases → Phases
+lastPhases n ps = getD ps (n - 1) noPhases
+
+-- with what was in force; without phase data both phase records are none
+unfoldable pub carriedIn : State → Contents → Setup → State
+carriedIn st c f = record {
+  setup = f;
+  iid = recordAfter (f .iid) (f .iidmode) (st .iid) (c .frame .envelopes) (lastRow (c .frame .envelopes) (c .iid));
+  icc = recordAfter (f .icc) (f .iccmode) (st .icc) (c .frame .envelopes) (lastRow (c .frame .envelopes) (c .icc));
+  ipd = recordAfter (eqb (c .extension .part .body .phase) 1) (f .iidmode) (st .ipd) (c .frame .envelopes)
+      (lastPhases (c .frame .envelopes) (c .extension .part .body .phases) .ipd .indices);
+  opd = recordAfter (eqb (c .extension .part .body .phase) 1) (f .iidmode) (st .opd) (c .frame .envelopes)
+      (lastPhases (c .frame .envelopes) (c .extension .part .body .phases) .opd .indices);
+  instep = true;
+}
+
+unfoldable pub carried : State → Contents → State
+carried st c = carriedIn st c (setupAfter (st .setup) (c .header))

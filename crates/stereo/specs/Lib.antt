@@ -1,0 +1,8 @@
+pub mod State
+pub mod Header
+pub mod Frame
+pub mod Extension
+pub mod Payload
+pub mod Carried
+pub mod Stereo
+pub mod Answers

@@ -1,0 +1,30 @@
+-- A payload's contents, as they are read from a state: 12 and 35 apart.
+use Prim.Native.Nat.{ℕ}
+use Rattle.bits.specs.Reader.{Reader, give, _>>=_}
+use Rattle.differences.specs.Rows.{noRows, rows}
+use Rattle.differences.specs.declared.Kind.the-variants.{Iid, Icc}
+use Rattle.stereo.specs.Header.{noHeader, header, setupAfter}
+use Rattle.stereo.specs.Frame.{noFrame, frame}
+use Rattle.stereo.specs.Extension.{noExtension, extension}
+use Rattle.stereo.specs.declared.Setup.{Setup}
+use Rattle.stereo.specs.declared.State.{State}
+use Rattle.stereo.specs.declared.Header.{Header}
+use Rattle.stereo.specs.declared.Contents.{Contents}
+
+-- nothing was read
+unfoldable pub noContents : Contents
+noContents = record { header = noHeader; frame = noFrame; iid = noRows; icc = noRows; extension = noExtension }
+
+-- what follows the header, with what is in force after it
+unfoldable pub rest : State → Header → Setup → Reader Contents
+rest st h f = do
+  fr ← frame
+  iid ← rows Iid (f .iid) (f .iidmode) (st .iid) (fr .envelopes)
+  icc ← rows Icc (f .icc) (f .iccmode) (st .icc) (fr .envelopes)
+  x ← extension (f .ext) (f .iidmode) (st .ipd) (st .opd) (fr .envelopes)
+  give (record { header = h; frame = fr; iid = iid; icc = icc; extension = x })
+
+unfoldable pub payload : State → Reader Contents
+payload st = do
+  h ← header
+  rest st h (setupAfter (st .setup) h)

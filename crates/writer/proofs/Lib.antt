@@ -1,0 +1,5 @@
+pub mod PayloadLawful
+pub mod PayloadNumbers
+pub mod SpellingLaws
+pub mod SameLaws
+pub mod WritingLaws

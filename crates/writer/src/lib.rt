@@ -1,0 +1,9 @@
+// The stereo writer: contents and a state in, a payload's bytes and the next state out.
+use stereo::State;
+
+// The answer to a writing: the refusal, or 0, how many bits were written, and the next state.
+pub struct Written {
+    pub number: u8,
+    pub bits: usize,
+    pub state: State,
+}
