@@ -3,7 +3,6 @@ use bits::Ended;
 use differences::Held;
 use differences::Row;
 
-
 // The three enable flags, and the last IID and ICC modes sent, 7 for none.
 pub struct Setup {
     pub iid: bool,

@@ -16,11 +16,12 @@ use Rattle.bits.specs.Loop.{listed}
 use Rattle.bits.specs.Inside.{Fill, inside, leftOver}
 use Rattle.bits.specs.Pieces.{Piece, piece, total}
 use Rattle.bits.proofs.Bools.{true-false}
-use Rattle.bits.proofs.Spelt.{Spelt, told, respelt, give-spelt, bind-spelt, field-spelt, expecting-spelt, pick-spelt, listed-spelt, here-spelt, refuseAt-spelt, leftOver-spelt, inside-spelt, Every, spellEach, spellFill, Filled}
-use Rattle.tables.specs.Tables.{codesOf, lensOf}
+use Rattle.bits.proofs.Spelt.{Spelt, told, respelt, give-spelt, bind-spelt, field-spelt, expecting-spelt, pick-spelt, listed-spelt, here-spelt, refuseAt-spelt, leftOver-spelt, inside-spelt, Filled}
+use Rattle.bits.specs.Spelled.{spellEach, spellFill}
+use Rattle.tables.specs.Tables.{codesOf, spellWord}
 use Rattle.tables.specs.Names.{tableAt}
 use Rattle.tables.specs.Words.{allCodes}
-use Rattle.tables.proofs.Rules.{spellWord, spelt-at}
+use Rattle.tables.proofs.Rules.{spelt-at}
 use Rattle.differences.specs.Kind.{isPhase, fine, bands, inRange}
 use Rattle.differences.specs.Difference.{firstTable, differenceTable, difference, middle, added}
 use Rattle.differences.specs.Indices.{padded, reference, indexFrom, index, indices}

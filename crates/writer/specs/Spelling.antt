@@ -7,9 +7,9 @@ use lib.ListN.{take}
 use lib.IntN.{ℤ, pos, _+ℤ_, _-ℤ_, natAbs}
 use Rattle.bits.specs.Reader.{pick}
 use Rattle.bits.specs.Pieces.{Piece, piece}
-use Rattle.bits.proofs.Spelt.{spellEach}
+use Rattle.bits.specs.Spelled.{spellEach}
 use Rattle.tables.specs.Names.{tableAt}
-use Rattle.tables.proofs.Rules.{spellWord}
+use Rattle.tables.specs.Tables.{spellWord}
 use Rattle.differences.specs.Kind.{isPhase, bands}
 use Rattle.differences.specs.Difference.{differenceTable, middle}
 use Rattle.differences.specs.Indices.{reference}
