@@ -3,3 +3,4 @@ pub mod PayloadNumbers
 pub mod SpellingLaws
 pub mod SameLaws
 pub mod WritingLaws
+pub mod WroteLaws

@@ -159,7 +159,7 @@ unfolding countIndex envelopeCount
 count-back class i h = go (eqb class 1) i h
   where
     go : (b : Bool) (i : ℕ) → i < 4
-        → pick b (pick b (i + 1) (pick (eqb i 3) 4 i) - 1) (pick (eqb (pick b (i + 1) (pick (eqb i 3) 4 i)) 4) 3 (pick b (i + 1) (pick (eqb i 3) 4 i))) ≡ i
+        → pick b (min (pick b (i + 1) (pick (eqb i 3) 4 i)) 4 - 1) (pick (eqb (pick b (i + 1) (pick (eqb i 3) 4 i)) 4) 3 (min (pick b (i + 1) (pick (eqb i 3) 4 i)) 4)) ≡ i
     go true i l = omega arith
     go false zero l = refl
     go false (suc zero) l = refl

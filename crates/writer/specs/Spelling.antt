@@ -45,9 +45,9 @@ spellFields h =
 unfoldable pub spellHeader : Header → List Piece
 spellHeader h = bitField (h .there) 1 ++ pick (eqb (h .there) 1) (spellFields h) []
 
--- the frame: the index of the number of envelopes, and the borders where they are variable
+-- the frame: the index of the number of envelopes, of which there are no more than 4, and the borders where they are variable
 unfoldable pub countIndex : ℕ → ℕ → ℕ
-countIndex class n = pick (eqb class 1) (n - 1) (pick (eqb n 4) 3 n)
+countIndex class n = pick (eqb class 1) (min n 4 - 1) (pick (eqb n 4) 3 (min n 4))
 
 abbrev pub spellBorder : List ℕ → ℕ → List Piece
 spellBorder done b = bitField b 5

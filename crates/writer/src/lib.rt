@@ -1,6 +1,10 @@
 // The stereo writer: contents and a state in, a payload's bytes and the next state out.
 use stereo::State;
 
+pub mod extensions;
+pub mod fields;
+pub mod rows;
+
 // The answer to a writing: the refusal, or 0, how many bits were written, and the next state.
 pub struct Written {
     pub number: u8,

@@ -1,0 +1,15 @@
+use Rattle.writer.proofs.extensions.is_empty.Statement.{statement}
+use Rattle.writer.proofs.extensions.is_empty.Tie as tie
+use Rattle.writer.proofs.extensions.is_empty.Reads as reads
+use Rattle.writer.proofs.extensions.is_empty.Lts as lts
+
+-- src/extensions.rt:130:9
+returns : tie.Need-returns
+returns c = ?
+
+-- src/extensions.rt:126:1
+returns-2 : tie.Need-returns-2
+returns-2 c = ?
+
+pub is-empty-spec : {M : Type 1} → statement M
+is-empty-spec = tie.close (tie.spec returns returns-2)
