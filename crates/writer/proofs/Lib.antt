@@ -4,3 +4,4 @@ pub mod SpellingLaws
 pub mod SameLaws
 pub mod WritingLaws
 pub mod WroteLaws
+pub mod EntryLaws

@@ -1,12 +1,13 @@
 // The extension, put into the scratch array.
 ghost use Prim.Native.Nat.{_≤_, _+_, min};
-ghost use mathlib.Core.List.{[]};
+ghost use mathlib.Core.List.{[], _++_};
 ghost use lib.Dec.{eqb};
 ghost use Rattle.bits.specs.Reader.{pick};
 ghost use mathlib.Core.Path.{_≡_};
 ghost use Rattle.tables.specs.Tables.{Tables};
+ghost use Rattle.differences.specs.declared.Kind.the-variants.{Ipd, Opd};
 ghost use Rattle.writer.specs.Wrote.{Wrote, Room};
-ghost use Rattle.writer.specs.Spelling.{bitField, spellAllPhases, spellBody, spellPart, spellExtension};
+ghost use Rattle.writer.specs.Spelling.{bitField, spellRow, spellAllPhases, spellBody, spellPart, spellExtension};
 use crate::fields::put_field;
 use crate::rows::put_row;
 use differences::Held;
@@ -16,6 +17,26 @@ use stereo::Extension;
 use stereo::Part;
 use stereo::PhaseRecords;
 use stereo::Phases;
+
+// The phases of an envelope: a row of each kind.
+fn put_phases(
+    out: &mut [u8],
+    at: usize,
+    mode: u32,
+    ipd: Held,
+    opd: Held,
+    phases: Phases,
+    codes: &[u32],
+    lens: &[u8],
+) -> usize
+    requires { ⌜ Room 1420 at (now out) × Tables (now codes) (now lens) ⌝ }
+    ensures { λ r. ⌜ Wrote 1362 (now (out .entry)) at (spellRow Ipd mode ipd (phases .ipd) ++ spellRow Opd mode opd (phases .opd)) r (now (out .exit)) ⌝ }
+{
+    let first = phases.ipd;
+    let place = put_row(out, at, Kind::Ipd, mode, ipd, first, codes, lens);
+    let second = phases.opd;
+    put_row(out, place, Kind::Opd, mode, opd, second, codes, lens)
+}
 
 // The phases of n envelopes, each after those before it; where enable_ipdopd is 0 there are none.
 fn put_all_phases(
@@ -29,7 +50,7 @@ fn put_all_phases(
     codes: &[u32],
     lens: &[u8],
 ) -> usize
-    requires { ⌜ Room 5600 at (now out) × Tables (now codes) (now lens) ⌝ }
+    requires { ⌜ Room 5700 at (now out) × Tables (now codes) (now lens) ⌝ }
     ensures { λ r. ⌜ Wrote 5448 (now (out .entry)) at (spellAllPhases on mode (records .ipd) (records .opd) n phases) r (now (out .exit)) ⌝ }
 {
     if on != 1 {
@@ -44,13 +65,12 @@ fn put_all_phases(
             return place;
         }
         let p = phases[k];
-        let a = p.ipd;
-        let b = p.opd;
-        let next = put_row(out, place, Kind::Ipd, mode, ipd, a, codes, lens);
-        place = put_row(out, next, Kind::Opd, mode, opd, b, codes, lens);
-        let xs = a.indices;
+        place = put_phases(out, place, mode, ipd, opd, p, codes, lens);
+        let first = p.ipd;
+        let xs = first.indices;
         ipd = Held { mode, indices: xs };
-        let ys = b.indices;
+        let second = p.opd;
+        let ys = second.indices;
         opd = Held { mode, indices: ys };
         k += 1;
     }
@@ -68,7 +88,7 @@ fn put_body(
     codes: &[u32],
     lens: &[u8],
 ) -> usize
-    requires { ⌜ Room 5660 at (now out) × Tables (now codes) (now lens) ⌝ }
+    requires { ⌜ Room 5800 at (now out) × Tables (now codes) (now lens) ⌝ }
     ensures { λ r. ⌜ Wrote 5452 (now (out .entry)) at (spellBody mode (records .ipd) (records .opd) n body) r (now (out .exit)) ⌝ }
 {
     let a = put_field(out, at, 0, 2);
@@ -100,7 +120,7 @@ fn put_announced(
     codes: &[u32],
     lens: &[u8],
 ) -> usize
-    requires { ⌜ Room 5680 at (now out) × Tables (now codes) (now lens) ⌝ }
+    requires { ⌜ Room 5840 at (now out) × Tables (now codes) (now lens) ⌝ }
     ensures { λ r. ⌜ Wrote 5459 (now (out .entry)) at (pick empty [] (spellPart mode (records .ipd) (records .opd) n part)) r (now (out .exit)) ⌝ }
 {
     if empty {
@@ -144,7 +164,7 @@ pub fn put_extension(
     codes: &[u32],
     lens: &[u8],
 ) -> usize
-    requires { ⌜ Room 5740 at (now out) × Tables (now codes) (now lens) ⌝ }
+    requires { ⌜ Room 5900 at (now out) × Tables (now codes) (now lens) ⌝ }
     ensures { λ r. ⌜ Wrote 5471 (now (out .entry)) at (spellExtension on mode (records .ipd) (records .opd) n x) r (now (out .exit)) ⌝ }
 {
     if !on {

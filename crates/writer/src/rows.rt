@@ -1,19 +1,20 @@
 // Rows of indices, put into the scratch array as words of their differences.
-ghost use Prim.Native.Nat.{_≤_, _+_};
+ghost use Prim.Native.Nat.{_<_};
+ghost use lib.IntN.{pos};
 ghost use mathlib.Core.Path.{_≡_};
 ghost use mathlib.Core.List.{[]};
-ghost use lib.ListN.{take};
+ghost use lib.ListN.{take, getD};
 ghost use Rattle.bits.specs.Spelled.{spellEach};
 ghost use Rattle.tables.specs.Tables.{Tables, spellWord};
 ghost use Rattle.tables.specs.Names.{tableAt};
 ghost use Rattle.differences.specs.Kind.{bands};
+ghost use Rattle.differences.specs.Indices.{reference};
 ghost use Rattle.writer.specs.Wrote.{Wrote, Room};
 ghost use Rattle.writer.specs.Spelling.{entryTo, spellIndex, spellRow, spellRows};
 use crate::fields::put_field;
 use differences::Held;
 use differences::Kind;
 use differences::Row;
-use differences::indices;
 use differences::kinds;
 use differences::steps;
 
@@ -47,37 +48,42 @@ fn put_word(
     put_field(out, at, word.code, word.len as usize)
 }
 
+// The entry of an index, from that of the record or the one before it.
+fn entry_at(kind: Kind, mode: u32, time: u32, before: [i8; 34], xs: [i8; 34], i: usize) -> u32
+    requires { ⌜ i < 34 ⌝ }
+    ensures { λ r. ⌜ r ≡ entryTo kind mode (reference time before (take i xs)) (getD xs i (pos 0)) ⌝ }
+{
+    if time == 1 {
+        return entry_to(kind, mode, before[i], xs[i]);
+    }
+    if i == 0 {
+        return entry_to(kind, mode, 0, xs[0]);
+    }
+    entry_to(kind, mode, xs[i - 1], xs[i])
+}
+
 // The words of a row's indices, after the record before it.
 fn put_indices(
     out: &mut [u8],
     at: usize,
     kind: Kind,
     mode: u32,
+    time: u32,
     before: [i8; 34],
-    row: Row,
+    xs: [i8; 34],
     codes: &[u32],
     lens: &[u8],
 ) -> usize
-    requires { ⌜ Room 680 at (now out) × Tables (now codes) (now lens) ⌝ }
-    ensures { λ r. ⌜ Wrote 680 (now (out .entry)) at (spellEach (spellIndex kind mode (row .time) before) [] (take (bands kind mode) (row .indices))) r (now (out .exit)) ⌝ }
+    requires { ⌜ Room 700 at (now out) × Tables (now codes) (now lens) ⌝ }
+    ensures { λ r. ⌜ Wrote 680 (now (out .entry)) at (spellEach (spellIndex kind mode time before) [] (take (bands kind mode) xs)) r (now (out .exit)) ⌝ }
 {
     let count = kinds::bands(kind, mode);
-    let table = steps::difference_table(kind, mode, row.time);
-    let xs = row.indices;
-    let mut last = 0i8;
+    let table = steps::difference_table(kind, mode, time);
     let mut place = at;
     let mut i = 0;
     while i < count {
-        let from = indices::chosen(row.time, before[i], last);
-        last = xs[i];
-        place = put_word(
-            out,
-            place,
-            table,
-            entry_to(kind, mode, from, last),
-            codes,
-            lens,
-        );
+        let entry = entry_at(kind, mode, time, before, xs, i);
+        place = put_word(out, place, table, entry, codes, lens);
         i += 1;
     }
     place
@@ -94,12 +100,13 @@ pub fn put_row(
     codes: &[u32],
     lens: &[u8],
 ) -> usize
-    requires { ⌜ Room 700 at (now out) × Tables (now codes) (now lens) ⌝ }
+    requires { ⌜ Room 720 at (now out) × Tables (now codes) (now lens) ⌝ }
     ensures { λ r. ⌜ Wrote 681 (now (out .entry)) at (spellRow kind mode held row) r (now (out .exit)) ⌝ }
 {
     let place = put_field(out, at, row.time, 1);
     let before = held.indices;
-    put_indices(out, place, kind, mode, before, row, codes, lens)
+    let xs = row.indices;
+    put_indices(out, place, kind, mode, row.time, before, xs, codes, lens)
 }
 
 // The rows of a kind in n envelopes, each after those before it; not enabled, it has none.

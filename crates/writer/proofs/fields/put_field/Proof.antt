@@ -17,7 +17,7 @@ same-length : tie.Need-same-length
 same-length c = search needs
 
 returns : tie.Need-returns
-returns c = wrote-piece (c .put-bits .ensures) (omega arith)
+returns c = wrote-piece (c .before .before .put-bits .ensures) (omega arith)
 
 pub put-field-spec : {M : Type 1} → statement M
 put-field-spec = tie.close (tie.spec put-bits-requires add-result same-length returns)

@@ -1,3 +1,7 @@
+use Rattle.writer.proofs.WroteLaws.{wrote-then, wrote-as, wrote-most}
+use Rattle.writer.specs.Spelling.{spellHeader}
+use borrow.Author.Tests.{eq-eqb, ne-eqb}
+use native.Mathlib.Omega.{arith}
 use borrow.Author.Needs.{needs}
 use Rattle.writer.proofs.fields.put_header.Statement.{statement}
 use Rattle.writer.proofs.fields.put_header.Tie as tie
@@ -20,7 +24,11 @@ same-length c = search needs
 
 -- src/fields.rt:48:9
 returns : tie.Need-returns
-returns c = ?
+unfolding spellHeader
+returns c = let b = c .before .before in
+    let t = b .before .before in
+    let a = t .before .before .before .before in
+    wrote-as (wrote-then (a .put-field .ensures) (b .put-fields .ensures) (omega arith)) (rw (eq-eqb _ _ (t .if1 .taken)))
 
 -- src/fields.rt:42:1
 same-length-2 : tie.Need-same-length-2
@@ -28,7 +36,9 @@ same-length-2 c = search needs
 
 -- src/fields.rt:42:1
 returns-2 : tie.Need-returns-2
-returns-2 c = ?
+unfolding spellHeader
+returns-2 c = let a = c .before .before .before .before in
+    wrote-as (wrote-most (a .put-field .ensures) (omega arith)) (rw (ne-eqb _ _ (c .if1 .left)))
 
 pub put-header-spec : {M : Type 1} → statement M
 put-header-spec =

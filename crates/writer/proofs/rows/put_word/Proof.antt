@@ -1,3 +1,5 @@
+use native.Mathlib.Omega.{arith}
+use Rattle.writer.proofs.WroteLaws.{wrote-as, wrote-most}
 use borrow.Author.Needs.{needs}
 use Rattle.writer.proofs.rows.put_word.Statement.{statement}
 use Rattle.writer.proofs.rows.put_word.Tie as tie
@@ -24,7 +26,8 @@ same-length c = search needs
 
 -- src/rows.rt:35:1
 returns : tie.Need-returns
-returns c = ?
+returns c = let w = c .before .before .before .before .before in
+    wrote-as (wrote-most (c .before .before .put-field .ensures) (w .entry-word .ensures .1)) (w .entry-word .ensures .0)
 
 pub put-word-spec : {M : Type 1} → statement M
 put-word-spec =
