@@ -5,3 +5,4 @@ pub mod SameLaws
 pub mod WritingLaws
 pub mod WroteLaws
 pub mod EntryLaws
+pub mod ListSame

@@ -4,6 +4,7 @@ use stereo::State;
 pub mod extensions;
 pub mod fields;
 pub mod rows;
+pub mod same;
 
 // The answer to a writing: the refusal, or 0, how many bits were written, and the next state.
 pub struct Written {
