@@ -1,0 +1,6 @@
+pub mod ReadLaws
+pub mod HeaderLaws
+pub mod FrameLaws
+pub mod ExtensionLaws
+pub mod ContentsLaws
+pub mod TurnLaws

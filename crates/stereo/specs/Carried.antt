@@ -15,6 +15,8 @@ use Rattle.stereo.specs.Extension.{noPhases}
 use Rattle.stereo.specs.declared.Setup.{Setup}
 use Rattle.stereo.specs.declared.State.{State}
 use Rattle.stereo.specs.declared.Phases.{Phases}
+use Rattle.stereo.specs.declared.Body.{Body}
+use Rattle.stereo.specs.declared.PhaseRecords.{PhaseRecords}
 use Rattle.stereo.specs.declared.Contents.{Contents}
 
 -- a kind's record: not enabled, none; with no envelopes, it stays; else the last envelope's indices
@@ -29,16 +31,21 @@ lastRow n rs = getD rs (n - 1) noRow .indices
 abbrev pub lastPhases : ℕ → List Phases → Phases
 lastPhases n ps = getD ps (n - 1) noPhases
 
--- with what was in force; without phase data both phase records are none
+-- the phase records: without phase data both are none
+unfoldable pub phaseRecords : Setup → State → ℕ → Body → PhaseRecords
+phaseRecords f st n b = record {
+  ipd = recordAfter (eqb (b .phase) 1) (f .iidmode) (st .ipd) n (lastPhases n (b .phases) .ipd .indices);
+  opd = recordAfter (eqb (b .phase) 1) (f .iidmode) (st .opd) n (lastPhases n (b .phases) .opd .indices);
+}
+
+-- with what was in force
 unfoldable pub carriedIn : State → Contents → Setup → State
 carriedIn st c f = record {
   setup = f;
   iid = recordAfter (f .iid) (f .iidmode) (st .iid) (c .frame .envelopes) (lastRow (c .frame .envelopes) (c .iid));
   icc = recordAfter (f .icc) (f .iccmode) (st .icc) (c .frame .envelopes) (lastRow (c .frame .envelopes) (c .icc));
-  ipd = recordAfter (eqb (c .extension .part .body .phase) 1) (f .iidmode) (st .ipd) (c .frame .envelopes)
-      (lastPhases (c .frame .envelopes) (c .extension .part .body .phases) .ipd .indices);
-  opd = recordAfter (eqb (c .extension .part .body .phase) 1) (f .iidmode) (st .opd) (c .frame .envelopes)
-      (lastPhases (c .frame .envelopes) (c .extension .part .body .phases) .opd .indices);
+  ipd = phaseRecords f st (c .frame .envelopes) (c .extension .part .body) .ipd;
+  opd = phaseRecords f st (c .frame .envelopes) (c .extension .part .body) .opd;
   instep = true;
 }
 

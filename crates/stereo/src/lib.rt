@@ -3,6 +3,14 @@ use bits::Ended;
 use differences::Held;
 use differences::Row;
 
+pub mod extensions;
+pub mod frames;
+pub mod headers;
+pub mod payloads;
+pub mod readings;
+pub mod states;
+pub mod turns;
+
 // The three enable flags, and the last IID and ICC modes sent, 7 for none.
 pub struct Setup {
     pub iid: bool,

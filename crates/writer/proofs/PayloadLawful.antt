@@ -23,10 +23,11 @@ use Rattle.differences.specs.declared.Held.{Held}
 use Rattle.stereo.specs.Header.{mode, headerFields, header}
 use Rattle.stereo.specs.Frame.{bordersOf, borders, frame}
 use Rattle.stereo.specs.Extension.{phasesIn, phasesNext, phasesOf, phases, phaseFlag, v0, another, part, announced, escCount, extensionSent, extension}
-use Rattle.stereo.specs.Payload.{rest, payload}
+use Rattle.stereo.specs.Payload.{envelopes, payload}
 use Rattle.stereo.specs.declared.Setup.{Setup}
 use Rattle.stereo.specs.declared.State.{State}
 use Rattle.stereo.specs.declared.Header.{Header}
+use Rattle.stereo.specs.declared.Frame.{Frame}
 use Rattle.stereo.specs.declared.Phases.{Phases}
 
 ruleset lawfuls = (bind-lawful, field-lawful, zeroBit-lawful, give-lawful, expecting-lawful, pick-lawful, listed-lawful)
@@ -85,10 +86,10 @@ extension-lawful : (on : Bool) (mode : ℕ) (ipd opd : Held) (n : ℕ) → Lawfu
 unfolding extension extensionSent escCount
 extension-lawful on mode ipd opd n = search (lawfuls, announced-lawful) depth 16
 
-rest-lawful : (st : State) (h : Header) (f : Setup) → Lawful (rest st h f)
-unfolding rest
-rest-lawful st h f = search (lawfuls, frame-lawful, rows-lawful, extension-lawful) depth 24
+envelopes-lawful : (st : State) (h : Header) (f : Setup) (fr : Frame) → Lawful (envelopes st h f fr)
+unfolding envelopes
+envelopes-lawful st h f fr = search (lawfuls, rows-lawful, extension-lawful) depth 24
 
 pub payload-lawful : (st : State) → Lawful (payload st)
 unfolding payload
-payload-lawful st = search (lawfuls, header-lawful, rest-lawful) depth 8
+payload-lawful st = search (lawfuls, header-lawful, frame-lawful, envelopes-lawful) depth 12

@@ -28,10 +28,11 @@ use Rattle.differences.specs.declared.Held.{Held}
 use Rattle.stereo.specs.Header.{mode, headerFields, header}
 use Rattle.stereo.specs.Frame.{bordersOf, borders, frame}
 use Rattle.stereo.specs.Extension.{phasesIn, phasesNext, phasesOf, phases, phaseFlag, v0, another, part, announced, escCount, extensionSent, extension}
-use Rattle.stereo.specs.Payload.{rest, payload}
+use Rattle.stereo.specs.Payload.{envelopes, payload}
 use Rattle.stereo.specs.declared.Setup.{Setup}
 use Rattle.stereo.specs.declared.State.{State}
 use Rattle.stereo.specs.declared.Header.{Header}
+use Rattle.stereo.specs.declared.Frame.{Frame}
 
 -- the numbers of a payload
 abbrev pub own : ℕ → Bool
@@ -136,13 +137,13 @@ extension-own : (on : Bool) (mode : ℕ) (ipd opd : Held) (n : ℕ) → Numbered
 unfolding extension extensionSent escCount
 extension-own on mode ipd opd n = search (owns, announced-own) depth 16
 
-rest-own : (st : State) (h : Header) (f : Setup) → Numbered own (rest st h f)
-unfolding rest
-rest-own st h f = search (owns, frame-own, rows-own, extension-own) depth 24
+envelopes-own : (st : State) (h : Header) (f : Setup) (fr : Frame) → Numbered own (envelopes st h f fr)
+unfolding envelopes
+envelopes-own st h f fr = search (owns, rows-own, extension-own) depth 24
 
 pub payload-own : (st : State) → Numbered own (payload st)
 unfolding payload
-payload-own st = search (owns, header-own, rest-own) depth 8
+payload-own st = search (owns, header-own, frame-own, envelopes-own) depth 12
 
 pub whole-own : (st : State) (s : List ℕ) (n p : ℕ) → whole (payload st) s ≡ refused n p → own n ≡ true
 whole-own st s n p e = whole-numbered own (payload st) refl (payload-own st) s n p e

@@ -34,7 +34,7 @@ use Rattle.differences.specs.declared.Row.{Row}
 use Rattle.stereo.specs.Header.{noHeader, mode, headerFields, header, setupAfter}
 use Rattle.stereo.specs.Frame.{envelopeCount, noBorders, bordersOf, borders, frame}
 use Rattle.stereo.specs.Extension.{noPhases, noBody, noPart, noExtension, ipds, opds, phasesIn, phasesNext, phasesOf, phases, hasMode, phaseFlag, v0, another, part, announced, escCount, extensionSent, extension}
-use Rattle.stereo.specs.Payload.{rest, payload}
+use Rattle.stereo.specs.Payload.{envelopes, payload}
 use Rattle.stereo.specs.declared.Setup.{Setup}
 use Rattle.stereo.specs.declared.State.{State}
 use Rattle.stereo.specs.declared.Header.{Header}
@@ -246,10 +246,10 @@ extension-spelt true mode ipd opd n =
 extension-spelt false mode ipd opd n = give-spelt refl tt
 
 -- the whole
-rest-spelt : (st : State) (h : Header) (f : Setup) → Spelt (rest st h f) (spellHeader h) (spellingIn st f) (λ c. c .header ≡ h)
-unfolding rest spellingIn
-rest-spelt st h f =
-    bind-spelt frame-spelt λ fr _.
+envelopes-spelt : (st : State) (h : Header) (f : Setup) (fr : Frame)
+    → Spelt (envelopes st h f fr) (spellHeader h ++ spellFrame fr) (spellingIn st f) (λ c. c .header ≡ h)
+unfolding envelopes spellingIn
+envelopes-spelt st h f fr =
     bind-spelt (rows-spelt Iid (f .iid) (f .iidmode) (st .iid) (fr .envelopes)) λ iid _.
     bind-spelt (rows-spelt Icc (f .icc) (f .iccmode) (st .icc) (fr .envelopes)) λ icc _.
     bind-spelt (extension-spelt (f .ext) (f .iidmode) (st .ipd) (st .opd) (fr .envelopes)) λ x _.
@@ -259,11 +259,12 @@ pub payload-spelt : (st : State) → Spelt (payload st) [] (spelling st) Any
 unfolding payload spelling
 payload-spelt st =
     bind-spelt header-spelt λ h _.
-    told refl (λ c o. tt) (spelled (setupAfter (st .setup)) h (rest-spelt st h (setupAfter (st .setup) h)))
+    bind-spelt frame-spelt λ fr _.
+    told refl (λ c o. tt) (spelled (setupAfter (st .setup)) h (envelopes-spelt st h (setupAfter (st .setup) h) fr))
   where
     -- the header that was read is the contents' own
-    spelled : (after : Header → Setup) (h : Header) {r : Reader Contents} → Spelt r (spellHeader h) (spellingIn st (after h)) (λ c. c .header ≡ h)
-        → Spelt r (spellHeader h) (λ c. spellingIn st (after (c .header)) c) (λ c. c .header ≡ h)
+    spelled : (after : Header → Setup) (h : Header) {r : Reader Contents} {before : List Piece}
+        → Spelt r before (spellingIn st (after h)) (λ c. c .header ≡ h) → Spelt r before (λ c. spellingIn st (after (c .header)) c) (λ c. c .header ≡ h)
     spelled after h g = record {
       law = λ s at end next c q.
           let x = g .law s at end next c q in

@@ -1,0 +1,27 @@
+use mathlib.Core.Path.{_∙_}
+use Rattle.stereo.specs.Extension.{extension}
+use borrow.Author.Needs.{needs}
+use Rattle.stereo.proofs.extensions.read_extension.Statement.{statement}
+use Rattle.stereo.proofs.extensions.read_extension.Tie as tie
+use Rattle.stereo.proofs.extensions.read_extension.Reads as reads
+use Rattle.stereo.proofs.extensions.read_extension.Lts as lts
+use Rattle.stereo.proofs.extensions.no_extension.Reads as no-extension-reads
+use Rattle.stereo.proofs.extensions.read_extension_sent.Reads as read-extension-sent-reads
+
+read-extension-sent-requires : tie.Need-read-extension-sent-requires
+read-extension-sent-requires c κs = search needs
+
+returns : tie.Need-returns
+unfolding extension
+returns c = c .read-extension-sent .ensures ∙ rw (c .before .if1 .taken)
+
+no-extension-requires : tie.Need-no-extension-requires
+no-extension-requires c κs = search needs
+
+returns-2 : tie.Need-returns-2
+unfolding extension
+returns-2 c = rw (c .before .if1 .left, c .no-extension .ensures)
+
+pub read-extension-spec : {M : Type 1} → statement M
+read-extension-spec =
+    tie.close (tie.spec read-extension-sent-requires returns no-extension-requires returns-2)

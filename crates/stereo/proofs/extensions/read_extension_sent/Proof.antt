@@ -1,0 +1,103 @@
+use Prim.Native.Nat.{ℕ, _<_, _≤_, _+_, _^_}
+use mathlib.Core.Path.{_≡_, _∙_}
+use native.Mathlib.Omega.{arith}
+use Rattle.bits.proofs.Taken.{answered, field-below}
+use Rattle.stereo.specs.Extension.{extensionSent}
+use Rattle.stereo.proofs.ReadLaws.{passed}
+use Rattle.stereo.proofs.ExtensionLaws.{sent-rest, esc-below}
+use borrow.Author.Needs.{needs}
+use Rattle.stereo.proofs.extensions.read_extension_sent.Statement.{statement}
+use Rattle.stereo.proofs.extensions.read_extension_sent.Tie as tie
+use Rattle.stereo.proofs.extensions.read_extension_sent.Reads as reads
+use Rattle.stereo.proofs.extensions.read_extension_sent.Lts as lts
+use Rattle.bits.proofs.read_field.Reads as read-field-reads
+use Rattle.stereo.proofs.extensions.read_announced.Reads as read-announced-reads
+use Rattle.stereo.proofs.extensions.read_esc.Reads as read-esc-reads
+use Rattle.stereo.proofs.extensions.refused_extension.Reads as refused-extension-reads
+
+-- the size is at most 270
+size-le : (c : tie.After-known-told2) → c .before .before .before .before .before .f1 .given .0 .0 + c .before .f2 .given .0 .0 ≤ 270
+size-le c =
+    let k2 = c .before in
+    let f2 = k2 .before .before in
+    let k1 = f2 .before .before in
+    let a : k1 .f1 .given .0 .0 < 2 ^ 4 = field-below 4 _ _ _ _ _ (answered (k1 .before .before .read-field .ensures) (k1 .f1 .given .1)) in
+    let b : k2 .f2 .given .0 .0 < 256 = esc-below _ _ _ _ _ _ (answered (f2 .read-esc .ensures) (k2 .f2 .given .1)) in
+    omega arith
+
+read-field-requires : tie.Need-read-field-requires
+read-field-requires c κs = search needs
+
+enum-known-f1 : tie.Need-enum-known-f1
+enum-known-f1 c = search needs
+
+enum-told : tie.Need-enum-told
+enum-told c = search needs
+
+refused-extension-requires : tie.Need-refused-extension-requires
+refused-extension-requires c κs = search needs
+
+returns : tie.Need-returns
+unfolding extensionSent
+returns c =
+    let f1 = c .before .before .before in
+    passed _ (c .refused-extension .ensures) (c .before .enum-told .given .1) ∙ rw (answered (f1 .read-field .ensures) (c .before .enum-told .given .1))
+
+read-esc-requires : tie.Need-read-esc-requires
+read-esc-requires c κs = search needs
+
+enum-known-f2 : tie.Need-enum-known-f2
+enum-known-f2 c = search needs
+
+enum-told-2 : tie.Need-enum-told-2
+enum-told-2 c = search needs
+
+refused-extension-requires-2 : tie.Need-refused-extension-requires-2
+refused-extension-requires-2 c κs = search needs
+
+returns-2 : tie.Need-returns-2
+unfolding extensionSent
+returns-2 c =
+    let f2 = c .before .before .before in
+    let k1 = f2 .before .before in
+    passed _ (c .refused-extension2 .ensures) (c .before .enum-told2 .given .1)
+    ∙ rw (answered (k1 .before .before .read-field .ensures) (k1 .f1 .given .1), answered (f2 .read-esc .ensures) (c .before .enum-told2 .given .1))
+
+add-read-announced : tie.Need-add-read-announced
+add-read-announced c = let l = size-le c in record { fits = omega arith }
+
+cast-read-announced : tie.Need-cast-read-announced
+cast-read-announced c = search needs
+
+read-announced-requires : tie.Need-read-announced-requires
+read-announced-requires c κs =
+    let p = c .before .before .before .before .before .before .before .before .before .before .before .pre in
+    (p .0, p .1, p .2, size-le c)
+
+returns-3 : tie.Need-returns-3
+returns-3 c =
+    let r = c .before .read-announced in
+    let k2 = c .before .before .before in
+    let f2 = k2 .before .before in
+    let k1 = f2 .before .before in
+    sent-rest _ _ _ _ _ _ _ _ _ _ _ (answered (k1 .before .before .read-field .ensures) (k1 .f1 .given .1)) (answered (f2 .read-esc .ensures) (k2 .f2 .given .1))
+    (r .result .ended) (r .result .part) (r .ensures)
+
+pub read-extension-sent-spec : {M : Type 1} → statement M
+read-extension-sent-spec =
+    tie.close
+    (tie.spec
+    read-field-requires
+    enum-known-f1
+    enum-told
+    refused-extension-requires
+    returns
+    read-esc-requires
+    enum-known-f2
+    enum-told-2
+    refused-extension-requires-2
+    returns-2
+    add-read-announced
+    cast-read-announced
+    read-announced-requires
+    returns-3)

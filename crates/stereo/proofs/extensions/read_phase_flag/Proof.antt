@@ -1,0 +1,86 @@
+use mathlib.Core.Path.{_≡_, sym, _∙_, ap}
+use borrow.Author.Tests.{eq-eqb, ne-eqb}
+use Rattle.bits.specs.Answers.{fieldAnswer}
+use Rattle.bits.proofs.Taken.{answered}
+use Rattle.stereo.specs.Extension.{phaseFlag}
+use borrow.Author.Needs.{needs}
+use Rattle.stereo.proofs.extensions.read_phase_flag.Statement.{statement}
+use Rattle.stereo.proofs.extensions.read_phase_flag.Tie as tie
+use Rattle.stereo.proofs.extensions.read_phase_flag.Reads as reads
+use Rattle.stereo.proofs.extensions.read_phase_flag.Lts as lts
+use Rattle.bits.proofs.read_field.Reads as read-field-reads
+use Rattle.stereo.proofs.extensions.has_mode.Reads as has-mode-reads
+
+read-field-requires : tie.Need-read-field-requires
+read-field-requires c κs = search needs
+
+enum-known-f1 : tie.Need-enum-known-f1
+enum-known-f1 c = search needs
+
+enum-told : tie.Need-enum-told
+enum-told c = search needs
+
+returns : tie.Need-returns
+unfolding phaseFlag
+returns c =
+    let t = c .enum-told .given .1 in
+    ap fieldAnswer t ∙ rw (answered (c .before .before .read-field .ensures) t)
+
+returns-2 : tie.Need-returns-2
+unfolding phaseFlag
+returns-2 c =
+    let k1 = c .before .before in
+    rw (answered (k1 .before .before .read-field .ensures) (k1 .f1 .given .1), ne-eqb _ _ (c .if1 .taken))
+
+read-field-requires-2 : tie.Need-read-field-requires-2
+read-field-requires-2 c κs = search needs
+
+enum-known-f2 : tie.Need-enum-known-f2
+enum-known-f2 c = search needs
+
+enum-told-2 : tie.Need-enum-told-2
+enum-told-2 c = search needs
+
+returns-3 : tie.Need-returns-3
+unfolding phaseFlag
+returns-3 c =
+    let t = c .enum-told2 .given .1 in
+    let f2 = c .before .before in
+    let k1 = f2 .before .before .before in
+    ap fieldAnswer t ∙ rw (answered (k1 .before .before .read-field .ensures) (k1 .f1 .given .1), eq-eqb _ _ (f2 .before .if1 .left), answered (f2 .read-field2 .ensures) t)
+
+has-mode-requires : tie.Need-has-mode-requires
+has-mode-requires c κs = search needs
+
+returns-4 : tie.Need-returns-4
+unfolding phaseFlag
+returns-4 c =
+    let k2 = c .before .before .before in
+    let f2 = k2 .before .before in
+    let k1 = f2 .before .before .before in
+    rw (answered (k1 .before .before .read-field .ensures) (k1 .f1 .given .1), eq-eqb _ _ (f2 .before .if1 .left), answered (f2 .read-field2 .ensures) (k2 .f2 .given .1), sym (c .before .has-mode .ensures) ∙ c .if2 .taken)
+
+returns-5 : tie.Need-returns-5
+unfolding phaseFlag
+returns-5 c =
+    let k2 = c .before .before .before in
+    let f2 = k2 .before .before in
+    let k1 = f2 .before .before .before in
+    rw (answered (k1 .before .before .read-field .ensures) (k1 .f1 .given .1), eq-eqb _ _ (f2 .before .if1 .left), answered (f2 .read-field2 .ensures) (k2 .f2 .given .1), sym (c .before .has-mode .ensures) ∙ c .if2 .left)
+
+pub read-phase-flag-spec : {M : Type 1} → statement M
+read-phase-flag-spec =
+    tie.close
+    (tie.spec
+    read-field-requires
+    enum-known-f1
+    enum-told
+    returns
+    returns-2
+    read-field-requires-2
+    enum-known-f2
+    enum-told-2
+    returns-3
+    has-mode-requires
+    returns-4
+    returns-5)

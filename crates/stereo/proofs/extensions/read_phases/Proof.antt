@@ -1,0 +1,51 @@
+use mathlib.Core.Path.{_≡_, _∙_, ap}
+use Rattle.bits.specs.Answers.{endedAnswer}
+use Rattle.bits.specs.declared.Ended.{Ended}
+use Rattle.stereo.proofs.ReadLaws.{told}
+use Rattle.stereo.proofs.ExtensionLaws.{phases-refused, phases-rest}
+use borrow.Author.Needs.{needs}
+use Rattle.stereo.proofs.extensions.read_phases.Statement.{statement}
+use Rattle.stereo.proofs.extensions.read_phases.Tie as tie
+use Rattle.stereo.proofs.extensions.read_phases.Reads as reads
+use Rattle.stereo.proofs.extensions.read_phases.Lts as lts
+use Rattle.differences.proofs.rows.read_row.Reads as read-row-reads
+use Rattle.stereo.proofs.extensions.no_phases.Reads as no-phases-reads
+
+read-row-requires : tie.Need-read-row-requires
+read-row-requires c κs = search needs
+
+enum-known-ended : tie.Need-enum-known-ended
+enum-known-ended c = search needs
+
+read-row-requires-2 : tie.Need-read-row-requires-2
+read-row-requires-2 c κs = search needs
+
+enum-told : tie.Need-enum-told
+enum-told c = search needs
+
+no-phases-requires : tie.Need-no-phases-requires
+no-phases-requires c κs = search needs
+
+returns : tie.Need-returns
+returns c =
+    let r = c .before .read-row2 in
+    let p = c .before .before .before .before .before .before .before in
+    phases-rest _ _ _ _ _ _ _ _ (told (p .read-row .result .row) (p .read-row .ensures) (c .before .before .before .before .ended .given .1)) (r .result .ended) (r .result .row) (r .ensures)
+
+returns-2 : tie.Need-returns-2
+returns-2 c =
+    let p = c .before .before .before .before in
+    let t = c .before .enum-told .given .1 in
+    ap (λ (x : Ended). endedAnswer x (c .no-phases .result)) t ∙ phases-refused _ _ _ _ _ _ _ _ (told (p .read-row .result .row) (p .read-row .ensures) t)
+
+pub read-phases-spec : {M : Type 1} → statement M
+read-phases-spec =
+    tie.close
+    (tie.spec
+    read-row-requires
+    enum-known-ended
+    read-row-requires-2
+    enum-told
+    no-phases-requires
+    returns
+    returns-2)

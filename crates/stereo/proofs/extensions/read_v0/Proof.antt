@@ -1,0 +1,93 @@
+use Rattle.stereo.specs.declared.Body.{Body}
+use mathlib.Core.Path.{_≡_, _∙_, ap}
+use Rattle.bits.specs.Answers.{endedAnswer}
+use Rattle.bits.specs.declared.Ended.{Ended}
+use Rattle.bits.proofs.Taken.{answered}
+use Rattle.stereo.proofs.ReadLaws.{passed, told}
+use Rattle.stereo.proofs.ExtensionLaws.{v0-refused, v0-cut, v0-rest}
+use borrow.Author.Needs.{needs}
+use Rattle.stereo.proofs.extensions.read_v0.Statement.{statement}
+use Rattle.stereo.proofs.extensions.read_v0.Tie as tie
+use Rattle.stereo.proofs.extensions.read_v0.Reads as reads
+use Rattle.stereo.proofs.extensions.read_v0.Lts as lts
+use Rattle.bits.proofs.passed_on.Reads as passed-on-reads
+use Rattle.stereo.proofs.extensions.read_all_phases.Reads as read-all-phases-reads
+use Rattle.stereo.proofs.extensions.read_phase_flag.Reads as read-phase-flag-reads
+use Rattle.stereo.proofs.extensions.read_reserved.Reads as read-reserved-reads
+use Rattle.stereo.proofs.extensions.refused_body.Reads as refused-body-reads
+
+read-phase-flag-requires : tie.Need-read-phase-flag-requires
+read-phase-flag-requires c κs = search needs
+
+enum-known-f1 : tie.Need-enum-known-f1
+enum-known-f1 c = search needs
+
+enum-told : tie.Need-enum-told
+enum-told c = search needs
+
+passed-on-requires : tie.Need-passed-on-requires
+passed-on-requires c κs = search needs
+
+refused-body-requires : tie.Need-refused-body-requires
+refused-body-requires c κs = search needs
+
+returns : tie.Need-returns
+returns c =
+    let t = c .before .before .enum-told .given .1 in
+    let f = c .before .before .before .before in
+    passed _ (c .refused-body .ensures ∙ c .before .passed-on .ensures) t ∙ v0-refused _ _ _ _ _ _ _ _ _ (answered (f .read-phase-flag .ensures) t)
+
+read-all-phases-requires : tie.Need-read-all-phases-requires
+read-all-phases-requires c κs = search needs
+
+enum-known-e2 : tie.Need-enum-known-e2
+enum-known-e2 c = search needs
+
+enum-told-2 : tie.Need-enum-told-2
+enum-told-2 c = search needs
+
+refused-body-requires-2 : tie.Need-refused-body-requires-2
+refused-body-requires-2 c κs = search needs
+
+returns-2 : tie.Need-returns-2
+returns-2 c =
+    let t = c .before .enum-told2 .given .1 in
+    let r = c .before .before .before .before in
+    let k = r .before .before in
+    ap (λ (x : Ended). endedAnswer x (c .refused-body2 .result .body)) (c .refused-body2 .ensures ∙ t)
+    ∙ v0-cut _ _ _ _ _ _ _ _ _ _ _ (answered (k .before .before .read-phase-flag .ensures) (k .f1 .given .1)) (told (r .read-all-phases .result .phases) (r .read-all-phases .ensures) t)
+
+read-reserved-requires : tie.Need-read-reserved-requires
+read-reserved-requires c κs = search needs
+
+passed-on-requires-2 : tie.Need-passed-on-requires-2
+passed-on-requires-2 c κs = search needs
+
+returns-3 : tie.Need-returns-3
+returns-3 c =
+    let z = c .before .read-reserved in
+    let e = c .before .before .before in
+    let r = e .before .before .before in
+    let k = r .before .before in
+    ap (λ (x : Ended). endedAnswer {A = Body} x (record { phase = k .f1 .given .0 .0; phases = r .read-all-phases .result .phases })) (c .passed-on2 .ensures)
+    ∙ v0-rest _ _ _ _ _ _ _ _ _ _ _ (answered (k .before .before .read-phase-flag .ensures) (k .f1 .given .1)) (told (r .read-all-phases .result .phases) (r .read-all-phases .ensures) (e .e2 .given .1))
+    (z .result) (z .ensures)
+
+pub read-v0-spec : {M : Type 1} → statement M
+read-v0-spec =
+    tie.close
+    (tie.spec
+    read-phase-flag-requires
+    enum-known-f1
+    enum-told
+    passed-on-requires
+    refused-body-requires
+    returns
+    read-all-phases-requires
+    enum-known-e2
+    enum-told-2
+    refused-body-requires-2
+    returns-2
+    read-reserved-requires
+    passed-on-requires-2
+    returns-3)

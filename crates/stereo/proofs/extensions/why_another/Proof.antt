@@ -1,0 +1,19 @@
+use borrow.Author.Tests.{eq-eqb, ne-eqb}
+use borrow.Author.Needs.{needs}
+use Rattle.stereo.proofs.extensions.why_another.Statement.{statement}
+use Rattle.stereo.proofs.extensions.why_another.Tie as tie
+use Rattle.stereo.proofs.extensions.why_another.Reads as reads
+use Rattle.stereo.proofs.extensions.why_another.Lts as lts
+use Rattle.bits.proofs.bits_at.Reads as bits-at-reads
+
+bits-at-requires : tie.Need-bits-at-requires
+bits-at-requires c κs = search needs
+
+returns : tie.Need-returns
+returns c = rw (← c .before .bits-at .ensures, eq-eqb _ _ (c .if1 .taken))
+
+returns-2 : tie.Need-returns-2
+returns-2 c = rw (← c .before .bits-at .ensures, ne-eqb _ _ (c .if1 .left))
+
+pub why-another-spec : {M : Type 1} → statement M
+why-another-spec = tie.close (tie.spec bits-at-requires returns returns-2)

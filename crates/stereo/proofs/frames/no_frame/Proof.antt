@@ -1,0 +1,17 @@
+use Rattle.stereo.specs.Frame.{noFrame}
+use borrow.Author.Needs.{needs}
+use Rattle.stereo.proofs.frames.no_frame.Statement.{statement}
+use Rattle.stereo.proofs.frames.no_frame.Tie as tie
+use Rattle.stereo.proofs.frames.no_frame.Reads as reads
+use Rattle.stereo.proofs.frames.no_frame.Lts as lts
+use Rattle.stereo.proofs.frames.no_borders.Reads as no-borders-reads
+
+no-borders-requires : tie.Need-no-borders-requires
+no-borders-requires c κs = search needs
+
+returns : tie.Need-returns
+unfolding noFrame
+returns c = rw (c .no-borders .ensures)
+
+pub no-frame-spec : {M : Type 1} → statement M
+no-frame-spec = tie.close (tie.spec no-borders-requires returns)

@@ -1,0 +1,28 @@
+use mathlib.Core.Path.{_∙_}
+use borrow.Author.Tests.{eq-eqb, ne-eqb}
+use Rattle.stereo.specs.Frame.{borders}
+use borrow.Author.Needs.{needs}
+use Rattle.stereo.proofs.frames.read_borders.Statement.{statement}
+use Rattle.stereo.proofs.frames.read_borders.Tie as tie
+use Rattle.stereo.proofs.frames.read_borders.Reads as reads
+use Rattle.stereo.proofs.frames.read_borders.Lts as lts
+use Rattle.stereo.proofs.frames.no_borders.Reads as no-borders-reads
+use Rattle.stereo.proofs.frames.read_borders_of.Reads as read-borders-of-reads
+
+read-borders-of-requires : tie.Need-read-borders-of-requires
+read-borders-of-requires c κs = search needs
+
+returns : tie.Need-returns
+unfolding borders
+returns c = c .read-borders-of .ensures ∙ rw (eq-eqb _ _ (c .before .if1 .taken))
+
+no-borders-requires : tie.Need-no-borders-requires
+no-borders-requires c κs = search needs
+
+returns-2 : tie.Need-returns-2
+unfolding borders
+returns-2 c = rw (ne-eqb _ _ (c .before .if1 .left), c .no-borders .ensures)
+
+pub read-borders-spec : {M : Type 1} → statement M
+read-borders-spec =
+    tie.close (tie.spec read-borders-of-requires returns no-borders-requires returns-2)

@@ -1,0 +1,64 @@
+use mathlib.Core.Path.{_≡_, _∙_}
+use borrow.Author.Tests.{eq-eqb, ne-eqb}
+use Rattle.bits.proofs.Taken.{answered}
+use Rattle.stereo.specs.Header.{header}
+use Rattle.stereo.proofs.ReadLaws.{passed}
+use borrow.Author.Needs.{needs}
+use Rattle.stereo.proofs.headers.read_header.Statement.{statement}
+use Rattle.stereo.proofs.headers.read_header.Tie as tie
+use Rattle.stereo.proofs.headers.read_header.Reads as reads
+use Rattle.stereo.proofs.headers.read_header.Lts as lts
+use Rattle.bits.proofs.read_field.Reads as read-field-reads
+use Rattle.stereo.proofs.headers.no_header.Reads as no-header-reads
+use Rattle.stereo.proofs.headers.read_header_fields.Reads as read-header-fields-reads
+use Rattle.stereo.proofs.headers.refused_header.Reads as refused-header-reads
+
+read-field-requires : tie.Need-read-field-requires
+read-field-requires c κs = search needs
+
+enum-known-f : tie.Need-enum-known-f
+enum-known-f c = search needs
+
+enum-told : tie.Need-enum-told
+enum-told c = search needs
+
+refused-header-requires : tie.Need-refused-header-requires
+refused-header-requires c κs = search needs
+
+returns : tie.Need-returns
+unfolding header
+returns c =
+    let f = c .before .before .before in
+    passed _ (c .refused-header .ensures) (c .before .enum-told .given .1) ∙ rw (answered (f .read-field .ensures) (c .before .enum-told .given .1))
+
+read-header-fields-requires : tie.Need-read-header-fields-requires
+read-header-fields-requires c κs = search needs
+
+returns-2 : tie.Need-returns-2
+unfolding header
+returns-2 c =
+    let k = c .before .before .before in
+    c .read-header-fields .ensures ∙ rw (answered (k .before .before .read-field .ensures) (k .f .given .1), eq-eqb _ _ (c .before .if1 .taken))
+
+no-header-requires : tie.Need-no-header-requires
+no-header-requires c κs = search needs
+
+returns-3 : tie.Need-returns-3
+unfolding header
+returns-3 c =
+    let k = c .before .before .before in
+    rw (answered (k .before .before .read-field .ensures) (k .f .given .1), ne-eqb _ _ (c .before .if1 .left), c .no-header .ensures)
+
+pub read-header-spec : {M : Type 1} → statement M
+read-header-spec =
+    tie.close
+    (tie.spec
+    read-field-requires
+    enum-known-f
+    enum-told
+    refused-header-requires
+    returns
+    read-header-fields-requires
+    returns-2
+    no-header-requires
+    returns-3)

@@ -1,0 +1,31 @@
+use Rattle.stereo.specs.Payload.{noContents}
+use borrow.Author.Needs.{needs}
+use Rattle.stereo.proofs.payloads.no_contents.Statement.{statement}
+use Rattle.stereo.proofs.payloads.no_contents.Tie as tie
+use Rattle.stereo.proofs.payloads.no_contents.Reads as reads
+use Rattle.stereo.proofs.payloads.no_contents.Lts as lts
+use Rattle.differences.proofs.rows.no_rows.Reads as no-rows-reads
+use Rattle.stereo.proofs.extensions.no_extension.Reads as no-extension-reads
+use Rattle.stereo.proofs.frames.no_frame.Reads as no-frame-reads
+use Rattle.stereo.proofs.headers.no_header.Reads as no-header-reads
+
+no-header-requires : tie.Need-no-header-requires
+no-header-requires c κs = search needs
+
+no-frame-requires : tie.Need-no-frame-requires
+no-frame-requires c κs = search needs
+
+no-rows-requires : tie.Need-no-rows-requires
+no-rows-requires c κs = search needs
+
+no-extension-requires : tie.Need-no-extension-requires
+no-extension-requires c κs = search needs
+
+returns : tie.Need-returns
+unfolding noContents
+returns c = rw (c .before .before .before .no-header .ensures, c .before .before .no-frame .ensures, c .before .no-rows .ensures, c .no-extension .ensures)
+
+pub no-contents-spec : {M : Type 1} → statement M
+no-contents-spec =
+    tie.close
+    (tie.spec no-header-requires no-frame-requires no-rows-requires no-extension-requires returns)

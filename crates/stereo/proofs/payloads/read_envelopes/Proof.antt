@@ -1,0 +1,88 @@
+use mathlib.Core.Path.{_≡_, _∙_, ap}
+use Rattle.bits.specs.Answers.{endedAnswer}
+use Rattle.bits.specs.declared.Ended.{Ended}
+use Rattle.stereo.proofs.ReadLaws.{told}
+use Rattle.stereo.proofs.ContentsLaws.{iid-refused, icc-refused, envelopes-rest}
+use borrow.Author.Needs.{needs}
+use Rattle.stereo.proofs.payloads.read_envelopes.Statement.{statement}
+use Rattle.stereo.proofs.payloads.read_envelopes.Tie as tie
+use Rattle.stereo.proofs.payloads.read_envelopes.Reads as reads
+use Rattle.stereo.proofs.payloads.read_envelopes.Lts as lts
+use Rattle.differences.proofs.rows.read_kind.Reads as read-kind-reads
+use Rattle.stereo.proofs.extensions.read_extension.Reads as read-extension-reads
+use Rattle.stereo.proofs.payloads.phase_records.Reads as phase-records-reads
+use Rattle.stereo.proofs.payloads.refused_contents.Reads as refused-contents-reads
+
+read-kind-requires : tie.Need-read-kind-requires
+read-kind-requires c κs = search needs
+
+enum-known-e1 : tie.Need-enum-known-e1
+enum-known-e1 c = search needs
+
+enum-told : tie.Need-enum-told
+enum-told c = search needs
+
+refused-contents-requires : tie.Need-refused-contents-requires
+refused-contents-requires c κs = search needs
+
+returns : tie.Need-returns
+returns c =
+    let t = c .before .enum-told .given .1 in
+    let r = c .before .before .before .before in
+    ap (λ (x : Ended). endedAnswer x (c .refused-contents .result .contents)) (c .refused-contents .ensures ∙ t)
+    ∙ iid-refused _ _ _ _ _ _ _ _ _ (told (r .read-kind .result .rows) (r .read-kind .ensures) t)
+
+read-kind-requires-2 : tie.Need-read-kind-requires-2
+read-kind-requires-2 c κs = search needs
+
+enum-known-e2 : tie.Need-enum-known-e2
+enum-known-e2 c = search needs
+
+enum-told-2 : tie.Need-enum-told-2
+enum-told-2 c = search needs
+
+refused-contents-requires-2 : tie.Need-refused-contents-requires-2
+refused-contents-requires-2 c κs = search needs
+
+returns-2 : tie.Need-returns-2
+returns-2 c =
+    let t = c .before .enum-told2 .given .1 in
+    let q = c .before .before .before .before in
+    let e = q .before .before .before in
+    let r = e .before .before .before in
+    ap (λ (x : Ended). endedAnswer x (c .refused-contents2 .result .contents)) (c .refused-contents2 .ensures ∙ t)
+    ∙ icc-refused _ _ _ _ _ _ _ _ _ _ _ (told (r .read-kind .result .rows) (r .read-kind .ensures) (e .e1 .given .1)) (told (q .read-kind2 .result .rows) (q .read-kind2 .ensures) t)
+
+phase-records-requires : tie.Need-phase-records-requires
+phase-records-requires c κs = search needs
+
+read-extension-requires : tie.Need-read-extension-requires
+read-extension-requires c κs = search needs
+
+returns-3 : tie.Need-returns-3
+returns-3 c =
+    let x = c .before .read-extension in
+    let d = c .before .before .before .before in
+    let q = d .before .before .before in
+    let e = q .before .before .before in
+    let r = e .before .before .before in
+    envelopes-rest _ _ _ _ _ _ _ _ _ _ _ (told (r .read-kind .result .rows) (r .read-kind .ensures) (e .e1 .given .1)) (told (q .read-kind2 .result .rows) (q .read-kind2 .ensures) (d .e2 .given .1))
+    (x .result .ended) (x .result .extension) (rw (c .before .before .phase-records .ensures) at (x .ensures))
+
+pub read-envelopes-spec : {M : Type 1} → statement M
+read-envelopes-spec =
+    tie.close
+    (tie.spec
+    read-kind-requires
+    enum-known-e1
+    enum-told
+    refused-contents-requires
+    returns
+    read-kind-requires-2
+    enum-known-e2
+    enum-told-2
+    refused-contents-requires-2
+    returns-2
+    phase-records-requires
+    read-extension-requires
+    returns-3)

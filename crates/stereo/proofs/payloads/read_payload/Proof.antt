@@ -1,0 +1,89 @@
+use mathlib.Core.Path.{_≡_, _∙_, ap}
+use Rattle.bits.specs.Answers.{endedAnswer}
+use Rattle.bits.specs.declared.Ended.{Ended}
+use Rattle.stereo.specs.Payload.{envelopes}
+use Rattle.stereo.proofs.ReadLaws.{told}
+use Rattle.stereo.proofs.ContentsLaws.{header-refused, frame-refused, payload-rest}
+use borrow.Author.Needs.{needs}
+use Rattle.stereo.proofs.payloads.read_payload.Statement.{statement}
+use Rattle.stereo.proofs.payloads.read_payload.Tie as tie
+use Rattle.stereo.proofs.payloads.read_payload.Reads as reads
+use Rattle.stereo.proofs.payloads.read_payload.Lts as lts
+use Rattle.stereo.proofs.frames.read_frame.Reads as read-frame-reads
+use Rattle.stereo.proofs.headers.read_header.Reads as read-header-reads
+use Rattle.stereo.proofs.headers.setup_after.Reads as setup-after-reads
+use Rattle.stereo.proofs.payloads.read_envelopes.Reads as read-envelopes-reads
+use Rattle.stereo.proofs.payloads.refused_contents.Reads as refused-contents-reads
+
+read-header-requires : tie.Need-read-header-requires
+read-header-requires c κs = search needs
+
+enum-known-e1 : tie.Need-enum-known-e1
+enum-known-e1 c = search needs
+
+enum-told : tie.Need-enum-told
+enum-told c = search needs
+
+refused-contents-requires : tie.Need-refused-contents-requires
+refused-contents-requires c κs = search needs
+
+returns : tie.Need-returns
+returns c =
+    let t = c .before .enum-told .given .1 in
+    let r = c .before .before .before .before in
+    ap (λ (x : Ended). endedAnswer x (c .refused-contents .result .contents)) (c .refused-contents .ensures ∙ t)
+    ∙ header-refused _ _ _ _ _ _ (told (r .read-header .result .header) (r .read-header .ensures) t)
+
+read-frame-requires : tie.Need-read-frame-requires
+read-frame-requires c κs = search needs
+
+enum-known-e2 : tie.Need-enum-known-e2
+enum-known-e2 c = search needs
+
+enum-told-2 : tie.Need-enum-told-2
+enum-told-2 c = search needs
+
+refused-contents-requires-2 : tie.Need-refused-contents-requires-2
+refused-contents-requires-2 c κs = search needs
+
+returns-2 : tie.Need-returns-2
+returns-2 c =
+    let t = c .before .enum-told2 .given .1 in
+    let q = c .before .before .before .before in
+    let e = q .before .before in
+    let r = e .before .before .before in
+    ap (λ (x : Ended). endedAnswer x (c .refused-contents2 .result .contents)) (c .refused-contents2 .ensures ∙ t)
+    ∙ frame-refused _ _ _ _ _ _ _ _ (told (r .read-header .result .header) (r .read-header .ensures) (e .e1 .given .1)) (told (q .read-frame .result .frame) (q .read-frame .ensures .0) t)
+
+setup-after-requires : tie.Need-setup-after-requires
+setup-after-requires c κs = search needs
+
+read-envelopes-requires : tie.Need-read-envelopes-requires
+read-envelopes-requires c κs = search needs
+
+returns-3 : tie.Need-returns-3
+returns-3 c =
+    let d = c .before .before .before .before in
+    let q = d .before .before .before in
+    let e = q .before .before in
+    let r = e .before .before .before in
+    rw (c .before .setup-after .ensures) at (c .read-envelopes .ensures)
+    ∙ payload-rest _ _ _ _ _ _ _ _ (told (r .read-header .result .header) (r .read-header .ensures) (e .e1 .given .1)) (told (q .read-frame .result .frame) (q .read-frame .ensures .0) (d .e2 .given .1))
+
+pub read-payload-spec : {M : Type 1} → statement M
+read-payload-spec =
+    tie.close
+    (tie.spec
+    read-header-requires
+    enum-known-e1
+    enum-told
+    refused-contents-requires
+    returns
+    read-frame-requires
+    enum-known-e2
+    enum-told-2
+    refused-contents-requires-2
+    returns-2
+    setup-after-requires
+    read-envelopes-requires
+    returns-3)

@@ -1,0 +1,17 @@
+use Rattle.stereo.specs.State.{fresh, freshSetup}
+use borrow.Author.Needs.{needs}
+use Rattle.stereo.proofs.states.fresh.Statement.{statement}
+use Rattle.stereo.proofs.states.fresh.Tie as tie
+use Rattle.stereo.proofs.states.fresh.Reads as reads
+use Rattle.stereo.proofs.states.fresh.Lts as lts
+use Rattle.differences.proofs.records.none.Reads as none-reads
+
+none-requires : tie.Need-none-requires
+none-requires c κs = search needs
+
+returns : tie.Need-returns
+unfolding fresh freshSetup
+returns c = rw (c .none .ensures)
+
+pub fresh-spec : {M : Type 1} → statement M
+fresh-spec = tie.close (tie.spec none-requires returns)

@@ -1,0 +1,60 @@
+use mathlib.Core.Path.{_≡_, sym, _∙_}
+use Rattle.differences.proofs.KindLaws.{not-true, not-false}
+use Rattle.stereo.specs.State.{sound}
+use borrow.Author.Needs.{needs}
+use Rattle.stereo.proofs.states.is_sound.Statement.{statement}
+use Rattle.stereo.proofs.states.is_sound.Tie as tie
+use Rattle.stereo.proofs.states.is_sound.Reads as reads
+use Rattle.stereo.proofs.states.is_sound.Lts as lts
+use Rattle.differences.proofs.records.is_sound.Reads as is-sound-reads
+use Rattle.stereo.proofs.states.is_sound_setup.Reads as is-sound-setup-reads
+
+is-sound-setup-requires : tie.Need-is-sound-setup-requires
+is-sound-setup-requires c κs = search needs
+
+returns : tie.Need-returns
+unfolding sound
+returns c = rw (sym (c .before .is-sound-setup .ensures) ∙ not-true _ (c .if1 .taken))
+
+is-sound-requires : tie.Need-is-sound-requires
+is-sound-requires c κs = search needs
+
+returns-2 : tie.Need-returns-2
+unfolding sound
+returns-2 c = rw (sym (c .before .before .before .before .is-sound-setup .ensures) ∙ not-false _ (c .before .before .before .if1 .left), sym (c .before .is-sound .ensures) ∙ not-true _ (c .if2 .taken))
+
+is-sound-requires-2 : tie.Need-is-sound-requires-2
+is-sound-requires-2 c κs = search needs
+
+returns-3 : tie.Need-returns-3
+unfolding sound
+returns-3 c = rw (sym (c .before .before .before .before .before .before .before .is-sound-setup .ensures) ∙ not-false _ (c .before .before .before .before .before .before .if1 .left), sym (c .before .before .before .before .is-sound .ensures) ∙ not-false _ (c .before .before .before .if2 .left), sym (c .before .is-sound2 .ensures) ∙ not-true _ (c .if3 .taken))
+
+is-sound-requires-3 : tie.Need-is-sound-requires-3
+is-sound-requires-3 c κs = search needs
+
+returns-4 : tie.Need-returns-4
+unfolding sound
+returns-4 c = rw (sym (c .before .before .before .before .before .before .before .before .before .before .is-sound-setup .ensures) ∙ not-false _ (c .before .before .before .before .before .before .before .before .before .if1 .left), sym (c .before .before .before .before .before .before .before .is-sound .ensures) ∙ not-false _ (c .before .before .before .before .before .before .if2 .left), sym (c .before .before .before .before .is-sound2 .ensures) ∙ not-false _ (c .before .before .before .if3 .left), sym (c .before .is-sound3 .ensures) ∙ not-true _ (c .if4 .taken))
+
+is-sound-requires-4 : tie.Need-is-sound-requires-4
+is-sound-requires-4 c κs = search needs
+
+returns-5 : tie.Need-returns-5
+unfolding sound
+returns-5 c = c .is-sound4 .ensures ∙ rw (sym (c .before .before .before .before .before .before .before .before .before .before .before .before .is-sound-setup .ensures) ∙ not-false _ (c .before .before .before .before .before .before .before .before .before .before .before .if1 .left), sym (c .before .before .before .before .before .before .before .before .before .is-sound .ensures) ∙ not-false _ (c .before .before .before .before .before .before .before .before .if2 .left), sym (c .before .before .before .before .before .before .is-sound2 .ensures) ∙ not-false _ (c .before .before .before .before .before .if3 .left), sym (c .before .before .before .is-sound3 .ensures) ∙ not-false _ (c .before .before .if4 .left))
+
+pub is-sound-spec : {M : Type 1} → statement M
+is-sound-spec =
+    tie.close
+    (tie.spec
+    is-sound-setup-requires
+    returns
+    is-sound-requires
+    returns-2
+    is-sound-requires-2
+    returns-3
+    is-sound-requires-3
+    returns-4
+    is-sound-requires-4
+    returns-5)

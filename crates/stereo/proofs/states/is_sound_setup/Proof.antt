@@ -1,0 +1,51 @@
+use mathlib.Core.Path.{_≡_, sym, _∙_}
+use Rattle.differences.proofs.KindLaws.{not-true, not-false}
+use Rattle.stereo.specs.State.{soundSetup}
+use borrow.Author.Needs.{needs}
+use Rattle.stereo.proofs.states.is_sound_setup.Statement.{statement}
+use Rattle.stereo.proofs.states.is_sound_setup.Tie as tie
+use Rattle.stereo.proofs.states.is_sound_setup.Reads as reads
+use Rattle.stereo.proofs.states.is_sound_setup.Lts as lts
+use Rattle.differences.proofs.records.is_mode.Reads as is-mode-reads
+use Rattle.stereo.proofs.states.has_mode.Reads as has-mode-reads
+
+is-mode-requires : tie.Need-is-mode-requires
+is-mode-requires c κs = search needs
+
+returns : tie.Need-returns
+unfolding soundSetup
+returns c = rw (sym (c .before .is-mode .ensures) ∙ not-true _ (c .if1 .taken))
+
+is-mode-requires-2 : tie.Need-is-mode-requires-2
+is-mode-requires-2 c κs = search needs
+
+returns-2 : tie.Need-returns-2
+unfolding soundSetup
+returns-2 c = rw (sym (c .before .before .before .is-mode .ensures) ∙ not-false _ (c .before .before .if1 .left), sym (c .before .is-mode2 .ensures) ∙ not-true _ (c .if2 .taken))
+
+has-mode-requires : tie.Need-has-mode-requires
+has-mode-requires c κs = search needs
+
+returns-3 : tie.Need-returns-3
+unfolding soundSetup
+returns-3 c = rw (sym (c .before .before .before .before .before .is-mode .ensures) ∙ not-false _ (c .before .before .before .before .if1 .left), sym (c .before .before .before .is-mode2 .ensures) ∙ not-false _ (c .before .before .if2 .left), sym (c .before .has-mode .ensures) ∙ not-true _ (c .if3 .taken))
+
+has-mode-requires-2 : tie.Need-has-mode-requires-2
+has-mode-requires-2 c κs = search needs
+
+returns-4 : tie.Need-returns-4
+unfolding soundSetup
+returns-4 c = c .has-mode2 .ensures ∙ rw (sym (c .before .before .before .before .before .before .is-mode .ensures) ∙ not-false _ (c .before .before .before .before .before .if1 .left), sym (c .before .before .before .before .is-mode2 .ensures) ∙ not-false _ (c .before .before .before .if2 .left), sym (c .before .before .has-mode .ensures) ∙ not-false _ (c .before .if3 .left))
+
+pub is-sound-setup-spec : {M : Type 1} → statement M
+is-sound-setup-spec =
+    tie.close
+    (tie.spec
+    is-mode-requires
+    returns
+    is-mode-requires-2
+    returns-2
+    has-mode-requires
+    returns-3
+    has-mode-requires-2
+    returns-4)

@@ -1,0 +1,63 @@
+use mathlib.Core.Path.{_≡_, sym, _∙_}
+use borrow.Author.Tests.{eq-eqb, ne-eqb, le-leb, lt-leb}
+use Rattle.stereo.specs.Stereo.{restart}
+use Rattle.differences.proofs.KindLaws.{not-true, not-false}
+use borrow.Author.Needs.{needs}
+use Rattle.stereo.proofs.turns.is_restart.Statement.{statement}
+use Rattle.stereo.proofs.turns.is_restart.Tie as tie
+use Rattle.stereo.proofs.turns.is_restart.Reads as reads
+use Rattle.stereo.proofs.turns.is_restart.Lts as lts
+use Rattle.stereo.proofs.turns.are_phases_across.Reads as are-phases-across-reads
+use Rattle.stereo.proofs.turns.is_across.Reads as is-across-reads
+
+returns : tie.Need-returns
+unfolding restart
+returns c = rw (ne-eqb _ _ (c .if1 .taken))
+
+returns-2 : tie.Need-returns-2
+unfolding restart
+returns-2 c = rw (eq-eqb _ _ (c .before .before .if1 .left), ne-eqb _ _ (c .if2 .taken))
+
+returns-3 : tie.Need-returns-3
+unfolding restart
+returns-3 c = rw (eq-eqb _ _ (c .before .before .before .before .if1 .left), eq-eqb _ _ (c .before .before .if2 .left), ne-eqb _ _ (c .if3 .taken))
+
+returns-4 : tie.Need-returns-4
+unfolding restart
+returns-4 c = rw (eq-eqb _ _ (c .before .before .before .before .before .before .before .if1 .left), eq-eqb _ _ (c .before .before .before .before .before .if2 .left), eq-eqb _ _ (c .before .before .before .if3 .left), lt-leb _ _ (c .if4 .taken))
+
+is-across-requires : tie.Need-is-across-requires
+is-across-requires c κs = search needs
+
+returns-5 : tie.Need-returns-5
+unfolding restart
+returns-5 c = rw (eq-eqb _ _ (c .before .before .before .before .before .before .before .before .before .before .if1 .left), eq-eqb _ _ (c .before .before .before .before .before .before .before .before .if2 .left), eq-eqb _ _ (c .before .before .before .before .before .before .if3 .left), le-leb _ _ (c .before .before .before .if4 .left), sym (c .before .is-across .ensures) ∙ not-true _ (c .if5 .taken))
+
+is-across-requires-2 : tie.Need-is-across-requires-2
+is-across-requires-2 c κs = search needs
+
+returns-6 : tie.Need-returns-6
+unfolding restart
+returns-6 c = rw (eq-eqb _ _ (c .before .before .before .before .before .before .before .before .before .before .before .before .before .if1 .left), eq-eqb _ _ (c .before .before .before .before .before .before .before .before .before .before .before .if2 .left), eq-eqb _ _ (c .before .before .before .before .before .before .before .before .before .if3 .left), le-leb _ _ (c .before .before .before .before .before .before .if4 .left), sym (c .before .before .before .before .is-across .ensures) ∙ not-false _ (c .before .before .before .if5 .left), sym (c .before .is-across2 .ensures) ∙ not-true _ (c .if6 .taken))
+
+are-phases-across-requires : tie.Need-are-phases-across-requires
+are-phases-across-requires c κs = search needs
+
+returns-7 : tie.Need-returns-7
+unfolding restart
+returns-7 c = c .are-phases-across .ensures ∙ rw (eq-eqb _ _ (c .before .before .before .before .before .before .before .before .before .before .before .before .before .before .before .before .before .if1 .left), eq-eqb _ _ (c .before .before .before .before .before .before .before .before .before .before .before .before .before .before .before .if2 .left), eq-eqb _ _ (c .before .before .before .before .before .before .before .before .before .before .before .before .before .if3 .left), le-leb _ _ (c .before .before .before .before .before .before .before .before .before .before .if4 .left), sym (c .before .before .before .before .before .before .before .before .is-across .ensures) ∙ not-false _ (c .before .before .before .before .before .before .before .if5 .left), sym (c .before .before .before .before .before .is-across2 .ensures) ∙ not-false _ (c .before .before .before .before .if6 .left))
+
+pub is-restart-spec : {M : Type 1} → statement M
+is-restart-spec =
+    tie.close
+    (tie.spec
+    returns
+    returns-2
+    returns-3
+    returns-4
+    is-across-requires
+    returns-5
+    is-across-requires-2
+    returns-6
+    are-phases-across-requires
+    returns-7)

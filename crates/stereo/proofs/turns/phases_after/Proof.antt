@@ -1,0 +1,25 @@
+use Rattle.stereo.specs.Carried.{phaseRecords}
+use borrow.Author.Needs.{needs}
+use Rattle.stereo.proofs.turns.phases_after.Statement.{statement}
+use Rattle.stereo.proofs.turns.phases_after.Tie as tie
+use Rattle.stereo.proofs.turns.phases_after.Reads as reads
+use Rattle.stereo.proofs.turns.phases_after.Lts as lts
+use Rattle.stereo.proofs.turns.last_phases.Reads as last-phases-reads
+use Rattle.stereo.proofs.turns.record_after.Reads as record-after-reads
+
+last-phases-requires : tie.Need-last-phases-requires
+last-phases-requires c κs = search needs
+
+record-after-requires : tie.Need-record-after-requires
+record-after-requires c κs = search needs
+
+record-after-requires-2 : tie.Need-record-after-requires-2
+record-after-requires-2 c κs = search needs
+
+returns : tie.Need-returns
+unfolding phaseRecords
+returns c = rw (c .before .before .before .before .record-after .ensures, c .record-after2 .ensures, c .before .before .before .before .before .before .before .before .last-phases .ensures)
+
+pub phases-after-spec : {M : Type 1} → statement M
+phases-after-spec =
+    tie.close (tie.spec last-phases-requires record-after-requires record-after-requires-2 returns)

@@ -1,0 +1,38 @@
+use Prim.Native.Nat.{_<_, _≤_}
+use mathlib.Core.Path.{_≡_, sym, _∙_}
+use native.Mathlib.Omega.{arith}
+use lib.ListN.{length, getD, List·getD-eq-default}
+use Rattle.stereo.specs.Extension.{noPhases}
+use Rattle.stereo.proofs.TurnLaws.{getD-there}
+use borrow.Author.Needs.{needs}
+use Rattle.stereo.proofs.turns.phases_at.Statement.{statement}
+use Rattle.stereo.proofs.turns.phases_at.Tie as tie
+use Rattle.stereo.proofs.turns.phases_at.Reads as reads
+use Rattle.stereo.proofs.turns.phases_at.Lts as lts
+use Rattle.stereo.proofs.extensions.no_phases.Reads as no-phases-reads
+
+mul-result : tie.Need-mul-result
+mul-result c = search needs
+
+array-copy-out-result : tie.Need-array-copy-out-result
+array-copy-out-result c = search needs
+
+returns : tie.Need-returns
+returns c =
+    let a = c .before .before .args in
+    let l : length (a .t1) ≡ 4 = search needs in
+    getD-there (a .t1) (a .i) _ noPhases (omega arith)
+
+no-phases-requires : tie.Need-no-phases-requires
+no-phases-requires c κs = search needs
+
+returns-2 : tie.Need-returns-2
+returns-2 c =
+    let a = c .before .before .args in
+    let l : length (a .t1) ≡ 4 = search needs in
+    let g : length (a .t1) ≤ a .i = omega arith in
+    c .no-phases .ensures ∙ sym (List·getD-eq-default (a .t1) noPhases {n = a .i} g)
+
+pub phases-at-spec : {M : Type 1} → statement M
+phases-at-spec =
+    tie.close (tie.spec mul-result array-copy-out-result returns no-phases-requires returns-2)

@@ -1,0 +1,35 @@
+use mathlib.Core.Path.{_≡_}
+use mathlib.Core.Bool.{true, false}
+use borrow.Author.Tests.{eq-eqb, ne-eqb}
+use Rattle.stereo.specs.Carried.{recordAfter}
+use Rattle.differences.proofs.KindLaws.{not-true, not-false}
+use borrow.Author.Needs.{needs}
+use Rattle.stereo.proofs.turns.record_after.Statement.{statement}
+use Rattle.stereo.proofs.turns.record_after.Tie as tie
+use Rattle.stereo.proofs.turns.record_after.Reads as reads
+use Rattle.stereo.proofs.turns.record_after.Lts as lts
+use Rattle.differences.proofs.records.none.Reads as none-reads
+
+none-requires : tie.Need-none-requires
+none-requires c κs = search needs
+
+returns : tie.Need-returns
+unfolding recordAfter
+returns c =
+    let e : c .before .before .args .on ≡ false = not-true _ (c .before .if1 .taken) in
+    rw (e, c .none .ensures)
+
+returns-2 : tie.Need-returns-2
+unfolding recordAfter
+returns-2 c =
+    let e : c .before .before .args .on ≡ true = not-false _ (c .before .if1 .left) in
+    rw (e, eq-eqb _ _ (c .if2 .taken))
+
+returns-3 : tie.Need-returns-3
+unfolding recordAfter
+returns-3 c =
+    let e : c .before .before .args .on ≡ true = not-false _ (c .before .if1 .left) in
+    rw (e, ne-eqb _ _ (c .if2 .left))
+
+pub record-after-spec : {M : Type 1} → statement M
+record-after-spec = tie.close (tie.spec none-requires returns returns-2 returns-3)

@@ -1,0 +1,38 @@
+use Prim.Native.Nat.{_<_, _≤_}
+use mathlib.Core.Path.{_≡_, sym, _∙_}
+use native.Mathlib.Omega.{arith}
+use lib.ListN.{length, getD, List·getD-eq-default}
+use Rattle.differences.specs.Rows.{noRow}
+use Rattle.stereo.proofs.TurnLaws.{getD-there}
+use borrow.Author.Needs.{needs}
+use Rattle.stereo.proofs.turns.row_at.Statement.{statement}
+use Rattle.stereo.proofs.turns.row_at.Tie as tie
+use Rattle.stereo.proofs.turns.row_at.Reads as reads
+use Rattle.stereo.proofs.turns.row_at.Lts as lts
+use Rattle.differences.proofs.rows.no_row.Reads as no-row-reads
+
+mul-result : tie.Need-mul-result
+mul-result c = search needs
+
+array-copy-out-result : tie.Need-array-copy-out-result
+array-copy-out-result c = search needs
+
+returns : tie.Need-returns
+returns c =
+    let a = c .before .before .args in
+    let l : length (a .t1) ≡ 4 = search needs in
+    getD-there (a .t1) (a .i) _ noRow (omega arith)
+
+no-row-requires : tie.Need-no-row-requires
+no-row-requires c κs = search needs
+
+returns-2 : tie.Need-returns-2
+returns-2 c =
+    let a = c .before .before .args in
+    let l : length (a .t1) ≡ 4 = search needs in
+    let g : length (a .t1) ≤ a .i = omega arith in
+    c .no-row .ensures ∙ sym (List·getD-eq-default (a .t1) noRow {n = a .i} g)
+
+pub row-at-spec : {M : Type 1} → statement M
+row-at-spec =
+    tie.close (tie.spec mul-result array-copy-out-result returns no-row-requires returns-2)

@@ -1,0 +1,114 @@
+// A payload's contents, as they are read from a state.
+ghost use mathlib.Core.Path.{_≡_};
+ghost use Prim.Native.Nat.{_*_, _≤_};
+ghost use lib.ListN.{length};
+ghost use Rattle.bits.specs.Answers.{endedAnswer};
+ghost use Rattle.tables.specs.Tables.{Tables};
+ghost use Rattle.stereo.specs.Payload.{noContents, envelopes, payload};
+use crate::extensions;
+use crate::frames;
+use crate::headers;
+use crate::Contents;
+use crate::Frame;
+use crate::Header;
+use crate::PhaseRecords;
+use crate::ReadContents;
+use crate::Setup;
+use crate::State;
+use bits::Ended;
+use differences::rows;
+use differences::Kind;
+
+// No contents.
+pub fn no_contents() -> Contents
+    ensures { λ r. ⌜ r ≡ noContents ⌝ }
+{
+    let header = headers::no_header();
+    let frame = frames::no_frame();
+    let rows = rows::no_rows();
+    let extension = extensions::no_extension();
+    Contents {
+        header,
+        frame,
+        iid: rows,
+        icc: rows,
+        extension,
+    }
+}
+
+// Contents that are refused.
+fn refused_contents(ended: Ended) -> ReadContents
+    ensures { λ r. ⌜ r .ended ≡ ended ⌝ }
+{
+    let contents = no_contents();
+    ReadContents { ended, contents }
+}
+
+// What the envelopes of a frame hold.
+fn read_envelopes(
+    s: &[u8],
+    at: usize,
+    end: usize,
+    state: State,
+    header: Header,
+    setup: Setup,
+    frame: Frame,
+    codes: &[u32],
+    lens: &[u8],
+) -> ReadContents
+    requires { ⌜ (end ≤ 8 * length (now s)) × Tables (now codes) (now lens) × (frame .envelopes ≤ 4) ⌝ }
+    ensures { λ r. ⌜ endedAnswer (r .ended) (r .contents) ≡ envelopes state header setup frame (now (s .entry)) at end ⌝ }
+{
+    let n = frame.envelopes;
+    let held = state.iid;
+    let levels = rows::read_kind(s, at, end, Kind::Iid, setup.iid, setup.iidmode, held, n, codes, lens);
+    let e1 = levels.ended;
+    let iid = levels.rows;
+    let Ended::At(p1) = e1 else {
+        return refused_contents(e1);
+    };
+    let held = state.icc;
+    let coherences = rows::read_kind(s, p1, end, Kind::Icc, setup.icc, setup.iccmode, held, n, codes, lens);
+    let e2 = coherences.ended;
+    let icc = coherences.rows;
+    let Ended::At(p2) = e2 else {
+        return refused_contents(e2);
+    };
+    let records = phase_records(state);
+    let read = extensions::read_extension(s, p2, end, setup.ext, setup.iidmode, records, n, codes, lens);
+    let ended = read.ended;
+    let extension = read.extension;
+    let contents = Contents { header, frame, iid, icc, extension };
+    ReadContents { ended, contents }
+}
+
+// The phase records of a state.
+pub fn phase_records(state: State) -> PhaseRecords
+    ensures { λ r. ⌜ r ≡ record { ipd = state .ipd; opd = state .opd } ⌝ }
+{
+    let ipd = state.ipd;
+    let opd = state.opd;
+    PhaseRecords { ipd, opd }
+}
+
+// A payload's contents, from its first bit.
+pub fn read_payload(s: &[u8], end: usize, state: State, codes: &[u32], lens: &[u8]) -> ReadContents
+    requires { ⌜ (end ≤ 8 * length (now s)) × Tables (now codes) (now lens) ⌝ }
+    ensures { λ r. ⌜ endedAnswer (r .ended) (r .contents) ≡ payload state (now (s .entry)) 0 end ⌝ }
+{
+    let headed = headers::read_header(s, 0, end);
+    let e1 = headed.ended;
+    let header = headed.header;
+    let Ended::At(p1) = e1 else {
+        return refused_contents(e1);
+    };
+    let framed = frames::read_frame(s, p1, end);
+    let e2 = framed.ended;
+    let frame = framed.frame;
+    let Ended::At(p2) = e2 else {
+        return refused_contents(e2);
+    };
+    let before = state.setup;
+    let setup = headers::setup_after(before, header);
+    read_envelopes(s, p2, end, state, header, setup, frame, codes, lens)
+}

@@ -1,0 +1,178 @@
+// What a payload's contents lead to: whether they are a restart, and the state after them.
+ghost use mathlib.Core.Path.{_≡_};
+ghost use Prim.Native.Nat.{_-_};
+ghost use lib.Dec.{eqb};
+ghost use lib.ListN.{getD};
+ghost use Rattle.differences.specs.Rows.{noRow};
+ghost use Rattle.stereo.specs.Extension.{noPhases};
+ghost use Rattle.stereo.specs.Carried.{recordAfter, lastRow, lastPhases, phaseRecords, carried};
+ghost use Rattle.stereo.specs.Stereo.{across, phasesAcross, restart};
+use crate::extensions;
+use crate::headers;
+use crate::Body;
+use crate::Contents;
+use crate::PhaseRecords;
+use crate::Phases;
+use crate::Setup;
+use crate::State;
+use differences::records;
+use differences::rows;
+use differences::Held;
+use differences::Row;
+
+// The row of an envelope; there are four.
+fn row_at(rows: [Row; 4], i: usize) -> Row
+    ensures { λ r. ⌜ r ≡ getD rows i noRow ⌝ }
+{
+    if i < 4 {
+        return rows[i];
+    }
+    rows::no_row()
+}
+
+// The phases of an envelope; there are four.
+fn phases_at(phases: [Phases; 4], i: usize) -> Phases
+    ensures { λ r. ⌜ r ≡ getD phases i noPhases ⌝ }
+{
+    if i < 4 {
+        return phases[i];
+    }
+    extensions::no_phases()
+}
+
+// Whether the first row of a kind is across frequency.
+fn is_across(rows: [Row; 4]) -> bool
+    ensures { λ r. ⌜ r ≡ across rows ⌝ }
+{
+    let first = row_at(rows, 0);
+    first.time == 0
+}
+
+// Whether the first phases are across frequency, where there are any.
+fn are_phases_across(body: Body) -> bool
+    ensures { λ r. ⌜ r ≡ phasesAcross body ⌝ }
+{
+    if body.phase != 1 {
+        return true;
+    }
+    let phases = body.phases;
+    let first = phases_at(phases, 0);
+    let ipd = first.ipd;
+    if ipd.time != 0 {
+        return false;
+    }
+    let opd = first.opd;
+    opd.time == 0
+}
+
+// Whether contents are a restart.
+pub fn is_restart(contents: Contents) -> bool
+    ensures { λ r. ⌜ r ≡ restart contents ⌝ }
+{
+    let header = contents.header;
+    if header.there != 1 {
+        return false;
+    }
+    if header.iid != 1 {
+        return false;
+    }
+    if header.icc != 1 {
+        return false;
+    }
+    let frame = contents.frame;
+    if frame.envelopes < 1 {
+        return false;
+    }
+    let iid = contents.iid;
+    if !is_across(iid) {
+        return false;
+    }
+    let icc = contents.icc;
+    if !is_across(icc) {
+        return false;
+    }
+    let extension = contents.extension;
+    let part = extension.part;
+    let body = part.body;
+    are_phases_across(body)
+}
+
+// A kind's record after a payload of n envelopes, of which these are the last one's indices.
+fn record_after(on: bool, mode: u32, held: Held, n: usize, indices: [i8; 34]) -> Held
+    ensures { λ r. ⌜ r ≡ recordAfter on mode held n indices ⌝ }
+{
+    if !on {
+        return records::none();
+    }
+    if n == 0 {
+        return held;
+    }
+    Held { mode, indices }
+}
+
+// The indices of the last of n envelopes; with none, those of an empty row.
+fn last_row(n: usize, rows: [Row; 4]) -> [i8; 34]
+    ensures { λ r. ⌜ r ≡ lastRow n rows ⌝ }
+{
+    let last = row_at(rows, before(n));
+    last.indices
+}
+
+// The phases of the last of n envelopes.
+fn last_phases(n: usize, phases: [Phases; 4]) -> Phases
+    ensures { λ r. ⌜ r ≡ lastPhases n phases ⌝ }
+{
+    phases_at(phases, before(n))
+}
+
+// The number before another, and 0 before 0.
+fn before(n: usize) -> usize
+    ensures { λ r. ⌜ r ≡ n - 1 ⌝ }
+{
+    if n == 0 {
+        return 0;
+    }
+    n - 1
+}
+
+// The phase records after a payload.
+fn phases_after(setup: Setup, state: State, n: usize, body: Body) -> PhaseRecords
+    ensures { λ r. ⌜ r ≡ phaseRecords setup state n body ⌝ }
+{
+    let on = body.phase == 1;
+    let phases = body.phases;
+    let last = last_phases(n, phases);
+    let row = last.ipd;
+    let indices = row.indices;
+    let held = state.ipd;
+    let ipd = record_after(on, setup.iidmode, held, n, indices);
+    let row = last.opd;
+    let indices = row.indices;
+    let held = state.opd;
+    let opd = record_after(on, setup.iidmode, held, n, indices);
+    PhaseRecords { ipd, opd }
+}
+
+// The state after a payload that was read from another.
+pub fn carried(state: State, contents: Contents) -> State
+    ensures { λ r. ⌜ r ≡ carried state contents ⌝ }
+{
+    let before = state.setup;
+    let header = contents.header;
+    let setup = headers::setup_after(before, header);
+    let frame = contents.frame;
+    let n = frame.envelopes;
+    let rows = contents.iid;
+    let held = state.iid;
+    let iid = record_after(setup.iid, setup.iidmode, held, n, last_row(n, rows));
+    let rows = contents.icc;
+    let held = state.icc;
+    let icc = record_after(setup.icc, setup.iccmode, held, n, last_row(n, rows));
+    let extension = contents.extension;
+    let part = extension.part;
+    let body = part.body;
+    let phases = phases_after(setup, state, n, body);
+    let ipd = phases.ipd;
+    let opd = phases.opd;
+    State { setup, iid, icc, ipd, opd, instep: true }
+}
