@@ -7,17 +7,18 @@ use mathlib.Core.List.{List, []}
 use mathlib.Core.Bool.{Bool, true, false, _||_}
 use native.Mathlib.Omega.{arith}
 use lib.Dec.{eqb, leb}
-use lib.ListN.{length}
+use lib.ListN.{length, replicate}
 use borrow.Author.Tests.{le-leb, leb-true}
 use Rattle.bits.specs.Bits.{bitAt}
 use Rattle.bits.specs.Reader.{Answer, got, refused, pick}
 use Rattle.bits.specs.Payload.{whole}
 use Rattle.bits.specs.Pieces.{total}
-use Rattle.bits.specs.Packed.{bytesFor, packed}
+use Rattle.bits.specs.Packed.{putAll, bytesFor, packed}
+use Rattle.bits.specs.Writable.{matches, writable}
 use Rattle.bits.proofs.Bools.{true-false}
 use Rattle.bits.proofs.PayloadLaws.{whole-got, whole-is}
 use Rattle.bits.proofs.PackedLaws.{packed-length}
-use Rattle.bits.proofs.Exact.{ReadTo, can, cannot, written-read, read-writable, gives-back}
+use Rattle.bits.proofs.Exact.{ReadTo, can, cannot, written-read, read-writable, gives-back, scratch-read}
 use Rattle.stereo.specs.State.{sound, lost}
 use Rattle.stereo.specs.Payload.{payload}
 use Rattle.stereo.specs.Carried.{carried}
@@ -168,3 +169,12 @@ forty-only st c room h f = rw (h, cases (canWrite (from st) c) (λ e. f (can-wri
     cases : (b : Bool) → (b ≡ true → ⊥) → b ≡ false
     cases true f = absurd (f refl)
     cases false f = refl
+
+-- reading the scratch array back tells whether contents can be written
+pub spelled-can : (st : State) (c : Contents) {s : List ℕ} {n : ℕ} → s ≡ putAll (replicate 1536 0) 0 (spelling st c) → n ≡ total (spelling st c)
+    → n ≤ 10952 → matches sameContents (payload st s 0 n) c ≡ canWrite st c
+unfolding canWrite writable
+spelled-can st c e q h =
+    rw (e, q)
+    (ap (λ (a : Answer Contents). matches sameContents a c)
+    (scratch-read (payload st) (payload-lawful st) 1536 (spelling st c) (let l : total (spelling st c) ≤ 10952 = rw (← q) h in omega arith)))

@@ -24,11 +24,13 @@ enum-told-2 c = search needs
 
 -- src/writing.rt:38:1
 returns : tie.Need-returns
-returns c = ?
+returns c = let r = c .before .before .before .before in
+    rw (← (r .read-payload .ensures), c .before .enum-told .given .1) (c .same-contents .ensures)
 
 -- src/writing.rt:38:1
 returns-2 : tie.Need-returns-2
-returns-2 c = ?
+returns-2 c = let r = c .before .before .before in
+    rw (← (r .read-payload .ensures), c .enum-told2 .given .1)
 
 pub is-read-back-spec : {M : Type 1} → statement M
 is-read-back-spec =

@@ -1,3 +1,13 @@
+use Rattle.bits.specs.Pieces.{total}
+use Rattle.writer.proofs.WritingLaws.{spelled-can}
+use Rattle.writer.proofs.WroteLaws.{wrote-length}
+use Rattle.writer.specs.Spelling.{spelling}
+use Rattle.bits.specs.Packed.{putAll}
+use lib.ListN.{length, length-replicate}
+use Prim.Native.Nat.{ℕ, _≤_}
+use native.Mathlib.Omega.{arith}
+use mathlib.Core.List.{List}
+use mathlib.Core.Path.{_≡_, sym, _∙_, ap}
 use borrow.Author.Needs.{needs}
 use Rattle.writer.proofs.writing.spell.Statement.{statement}
 use Rattle.writer.proofs.writing.spell.Tie as tie
@@ -26,7 +36,8 @@ slice-aggregate-put-contents-2 c = search needs
 
 -- src/writing.rt:66:9
 put-contents-requires : tie.Need-put-contents-requires
-put-contents-requires c κs = ?
+put-contents-requires c κs = (record { size = ap length (c .before .before .before .before .before .before .pre) ∙ length-replicate {A = ℕ} 1536 0; left = omega arith },
+      (c .before .before .before .before .codes .ensures, c .before .before .before .lens .ensures))
 
 -- src/writing.rt:67:60
 slice-aggregate-is-read-back : tie.Need-slice-aggregate-is-read-back
@@ -38,7 +49,10 @@ slice-aggregate-is-read-back-2 c = search needs
 
 -- src/writing.rt:67:9
 is-read-back-requires : tie.Need-is-read-back-requires
-is-read-back-requires c κs = ?
+is-read-back-requires c κs = let p = c .before .before .before .before .before .put-contents .ensures in
+    let a = c .before .before .before .before .before .before .before .before .before .before .before .before in
+    let l = wrote-length p ∙ ap length (a .pre) ∙ length-replicate {A = ℕ} 1536 0 in
+    (omega (arith, p .ends, p .short, l), (c .before .before .before .before .before .before .before .before .before .before .codes .ensures, c .before .before .before .before .before .before .before .before .before .lens .ensures))
 
 -- src/writing.rt:60:1
 same-length : tie.Need-same-length
@@ -46,7 +60,13 @@ same-length c = search needs
 
 -- src/writing.rt:60:1
 returns : tie.Need-returns
-returns c = ?
+returns c = let p = c .before .before .before .before .before .before .put-contents .ensures in
+    let a = c .before .before .before .before .before .before .before .before .before .before .before .before .before in
+    let h = p .holds ∙ ap (λ (l : List ℕ). putAll l 0 (spelling (a .args .state) (a .args .contents))) (a .pre) in
+    let r = c .before .before .before .before .before .before .put-contents .result in
+    let n : r ≡ total (spelling (a .args .state) (a .args .contents)) = omega (arith, p .ends) in
+    let m : r ≤ 10952 = omega (arith, p .ends, p .short) in
+    (n, m, c .is-read-back .ensures ∙ spelled-can (a .args .state) (a .args .contents) h n m, h)
 
 pub spell-spec : {M : Type 1} → statement M
 spell-spec =

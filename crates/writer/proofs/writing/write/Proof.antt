@@ -1,3 +1,14 @@
+use Rattle.writer.specs.Writing.{writing, writtenOver}
+use Rattle.writer.specs.Spelling.{spelling}
+use Rattle.bits.proofs.PackedLaws.{scratch-bytes}
+use Rattle.bits.specs.Packed.{bytesFor}
+use Rattle.bits.specs.Pieces.{total}
+use lib.ListN.{length}
+use lib.Dec.{leb}
+use borrow.Author.Tests.{not-true, not-false, le-leb, lt-leb}
+use native.Mathlib.Omega.{arith}
+use mathlib.Core.Bool.{Bool, true, false}
+use mathlib.Core.Path.{_≡_, sym, _∙_, ap}
 use borrow.Author.Needs.{needs}
 use Rattle.writer.proofs.writing.write.Statement.{statement}
 use Rattle.writer.proofs.writing.write.Tie as tie
@@ -22,7 +33,8 @@ refused-requires c κs = search needs
 
 -- src/writing.rt:76:9
 returns : tie.Need-returns
-returns c = ?
+unfolding writing writtenOver
+returns c = (c .refused .ensures ∙ rw (← (c .before .before .is-sound .ensures), not-true (c .before .before .is-sound .result) (c .before .if1 .taken)), rw (c .refused .ensures))
 
 -- src/writing.rt:78:9
 read-from-requires : tie.Need-read-from-requires
@@ -42,7 +54,8 @@ refused-requires-2 c κs = search needs
 
 -- src/writing.rt:82:9
 returns-2 : tie.Need-returns-2
-returns-2 c = ?
+unfolding writing writtenOver
+returns-2 c = (c .refused2 .ensures ∙ rw (← (c .before .before .before .before .before .before .before .before .is-sound .ensures), not-false (c .before .before .before .before .before .before .before .before .is-sound .result) (c .before .before .before .before .before .before .before .if1 .left), ← (c .before .before .before .before .before .before .read-from .ensures), ← (c .before .before .before .before .spell .ensures .2), not-true (c .before .before .before .before .spell .result .can) (c .before .if2 .taken)), rw (c .refused2 .ensures))
 
 -- src/writing.rt:84:9
 is-accepted-requires : tie.Need-is-accepted-requires
@@ -54,7 +67,8 @@ refused-requires-3 c κs = search needs
 
 -- src/writing.rt:85:9
 returns-3 : tie.Need-returns-3
-returns-3 c = ?
+unfolding writing writtenOver
+returns-3 c = (c .refused3 .ensures ∙ rw (← (c .before .before .before .before .before .before .before .before .before .before .is-sound .ensures), not-false (c .before .before .before .before .before .before .before .before .before .before .is-sound .result) (c .before .before .before .before .before .before .before .before .before .if1 .left), ← (c .before .before .before .before .before .before .before .before .read-from .ensures), ← (c .before .before .before .before .before .before .spell .ensures .2), not-false (c .before .before .before .before .before .before .spell .result .can) (c .before .before .before .if2 .left), ← (c .before .before .is-accepted .ensures), not-true (c .before .before .is-accepted .result) (c .before .if3 .taken)), rw (c .refused3 .ensures))
 
 -- src/writing.rt:88:9
 bytes-for-requires : tie.Need-bytes-for-requires
@@ -66,7 +80,10 @@ refused-requires-4 c κs = search needs
 
 -- src/writing.rt:90:9
 returns-4 : tie.Need-returns-4
-returns-4 c = ?
+unfolding writing writtenOver
+returns-4 c = let e : leb (bytesFor (total (spelling (c .before .before .before .before .before .before .before .before .before .before .read-from .result) (c .before .before .before .before .before .before .before .before .before .before .before .before .before .before .args .contents)))) (length (c .before .before .before .before .before .before .before .before .before .before .before .before .before .before .args .out .now)) ≡ false =
+    rw (← (c .before .before .before .before .before .before .before .before .spell .ensures .0), ← (c .before .before .bytes-for .ensures)) (lt-leb _ _ (c .before .if4 .taken)) in
+    (c .refused4 .ensures ∙ rw (← (c .before .before .before .before .before .before .before .before .before .before .before .before .is-sound .ensures), not-false (c .before .before .before .before .before .before .before .before .before .before .before .before .is-sound .result) (c .before .before .before .before .before .before .before .before .before .before .before .if1 .left), ← (c .before .before .before .before .before .before .before .before .before .before .read-from .ensures), ← (c .before .before .before .before .before .before .before .before .spell .ensures .2), not-false (c .before .before .before .before .before .before .before .before .spell .result .can) (c .before .before .before .before .before .if2 .left), ← (c .before .before .before .before .is-accepted .ensures), not-false (c .before .before .before .before .is-accepted .result) (c .before .before .before .if3 .left), e), rw (c .refused4 .ensures))
 
 -- src/writing.rt:92:19
 slice-aggregate-copy-out : tie.Need-slice-aggregate-copy-out
@@ -86,7 +103,12 @@ same-length c = search needs
 
 -- src/writing.rt:72:1
 returns-5 : tie.Need-returns-5
-returns-5 c = ?
+unfolding writing writtenOver
+returns-5 c = let e : leb (bytesFor (total (spelling (c .before .before .before .before .before .before .before .before .before .before .before .before .before .before .before .read-from .result) (c .before .before .before .before .before .before .before .before .before .before .before .before .before .before .before .before .before .before .before .args .contents)))) (length (c .before .before .before .before .before .before .before .before .before .before .before .before .before .before .before .before .before .before .before .args .out .now)) ≡ true =
+    rw (← (c .before .before .before .before .before .before .before .before .before .before .before .before .before .spell .ensures .0), ← (c .before .before .before .before .before .before .before .bytes-for .ensures)) (le-leb _ _ (c .before .before .before .before .before .before .if4 .left)) in
+    let s = c .before .before .before .before .before .before .before .before .before .before .before .before .before .spell .ensures in
+    let k = scratch-bytes 1536 (spelling (c .before .before .before .before .before .before .before .before .before .before .before .before .before .before .before .read-from .result) (c .before .before .before .before .before .before .before .before .before .before .before .before .before .before .before .before .before .before .before .args .contents)) (omega (arith, s .0, s .1)) in
+    (rw (← (c .before .before .before .before .before .before .before .before .before .before .before .before .before .before .before .before .before .is-sound .ensures), not-false (c .before .before .before .before .before .before .before .before .before .before .before .before .before .before .before .before .before .is-sound .result) (c .before .before .before .before .before .before .before .before .before .before .before .before .before .before .before .before .if1 .left), ← (c .before .before .before .before .before .before .before .before .before .before .before .before .before .before .before .read-from .ensures), ← (c .before .before .before .before .before .before .before .before .before .before .before .before .before .spell .ensures .2), not-false (c .before .before .before .before .before .before .before .before .before .before .before .before .before .spell .result .can) (c .before .before .before .before .before .before .before .before .before .before .if2 .left), ← (c .before .before .before .before .before .before .before .before .before .is-accepted .ensures), not-false (c .before .before .before .before .before .before .before .before .before .is-accepted .result) (c .before .before .before .before .before .before .before .before .if3 .left), e, s .0, c .carried .ensures), c .before .before .before .copy-out .ensures ∙ rw (c .before .before .before .before .before .before .before .bytes-for .ensures, s .0, s .3, k, ← (c .before .before .before .before .before .before .before .before .before .before .before .before .before .before .before .read-from .ensures)))
 
 pub write-spec : {M : Type 1} → statement M
 write-spec =
