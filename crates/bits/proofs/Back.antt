@@ -15,9 +15,10 @@ use Rattle.bits.specs.Loop.{counted, more, listed}
 use Rattle.bits.specs.Places.{oneField}
 use Rattle.bits.specs.Inside.{inside, Fill, leftOver}
 use Rattle.bits.specs.Pieces.{Piece, piece, total, Holds}
+use Rattle.bits.specs.Spelled.{spellEach, spellFill}
 use Rattle.bits.proofs.FieldLaws.{is-field}
 use Rattle.bits.proofs.InsideLaws.{inside-there}
-use Rattle.bits.proofs.Spelt.{total-append, append-nil, spellEach, spellFill}
+use Rattle.bits.proofs.Spelt.{total-append, append-nil}
 
 pub holds-first : (s : List ℕ) (at : ℕ) (ps qs : List Piece) → Holds s at (ps ++ qs) → Holds s at ps
 holds-first s at [] qs h = tt

@@ -15,3 +15,4 @@ pub mod PackedLaws
 pub mod Exact
 pub mod Copied
 pub mod Signed
+pub mod Numbered

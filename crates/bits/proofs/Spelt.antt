@@ -17,6 +17,7 @@ use Rattle.bits.specs.Loop.{counted, more, listed}
 use Rattle.bits.specs.Places.{oneField, here, refuseAt}
 use Rattle.bits.specs.Inside.{inside, Fill, leftOver}
 use Rattle.bits.specs.Pieces.{Piece, piece, total, Holds}
+use Rattle.bits.specs.Spelled.{spellEach, spellFill}
 use Rattle.bits.proofs.BitLaws.{bitsFrom-lt}
 use Rattle.bits.proofs.Lawful.{never, split, tested-got}
 use Rattle.bits.proofs.FieldLaws.{field-taken}
@@ -141,11 +142,6 @@ counted-spelt {S} {f} {w} ok g i (suc n) x o = record {
       );
 }
 
--- the spelling of a list, each element by those before it
-abbrev pub spellEach : {A : Type 0} → (List A → A → List Piece) → List A → List A → List Piece
-spellEach w done [] = []
-spellEach w done (x ∷ xs) = w done x ++ spellEach w (done ++ x ∷ []) xs
-
 -- each element has a property
 abbrev pub Every : {A : Type 0} → (A → Type 0) → List A → Type 0
 Every P [] = Unit
@@ -169,10 +165,6 @@ listed-spelt {A} {f} {w} P g n =
     told refl (λ xs o. (o .0 ∙ zero-add n, o .1)) (counted-spelt {f = more f} (λ i xs. (length xs ≡ i) × Every P xs)
     (λ i xs o. bind-spelt (g xs) λ x p. give-spelt (spell-snoc w [] xs x) (rw (length-append xs (x ∷ [])) (omega arith), every-snoc P xs x (o .1) p))
     0 n [] (refl, tt))
-
--- bits that are left over are one piece
-abbrev pub spellFill : Fill → List Piece
-spellFill x = piece (x .value) (x .count) ∷ []
 
 abbrev pub Filled : ℕ → Fill → Type 0
 Filled most x = (x .count ≤ most) × (x .value < 2 ^ x .count)

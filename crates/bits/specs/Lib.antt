@@ -6,6 +6,7 @@ pub mod Places
 pub mod Inside
 pub mod Payload
 pub mod Pieces
+pub mod Spelled
 pub mod Packed
 pub mod Writable
 pub mod Answers

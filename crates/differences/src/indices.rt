@@ -16,7 +16,7 @@ use crate::steps;
 use bits::Ended;
 
 // The first of two indices where the time flag is 1, else the second.
-fn chosen(time: u32, a: i8, b: i8) -> i8
+pub fn chosen(time: u32, a: i8, b: i8) -> i8
     ensures { λ r. ⌜ r ≡ pick (eqb time 1) a b ⌝ }
 {
     if time == 1 {

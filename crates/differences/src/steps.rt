@@ -32,7 +32,7 @@ fn first_table(kind: Kind, mode: u32) -> usize
 }
 
 // The number of the table of a kind's differences.
-fn difference_table(kind: Kind, mode: u32, time: u32) -> usize
+pub fn difference_table(kind: Kind, mode: u32, time: u32) -> usize
     ensures { λ r. ⌜ (r ≡ differenceTable kind mode time) × (12 ≤ r) × (r ≤ 21) ⌝ }
 {
     let first = first_table(kind, mode);
@@ -62,7 +62,7 @@ fn table_word(s: &[u8], at: usize, end: usize, table: usize, codes: &[u32], lens
 }
 
 // The entry that is no difference.
-fn middle(kind: Kind, mode: u32) -> i16
+pub fn middle(kind: Kind, mode: u32) -> i16
     ensures { λ r. ⌜ r ≡ pos (middle kind mode) ⌝ }
 {
     match kind {
@@ -74,7 +74,7 @@ fn middle(kind: Kind, mode: u32) -> i16
 }
 
 // The magnitude of an index.
-fn magnitude(x: i8) -> u32
+pub fn magnitude(x: i8) -> u32
     ensures { λ r. ⌜ (r ≡ natAbs x) × (r ≤ 128) ⌝ }
 {
     let wide = x as i16;

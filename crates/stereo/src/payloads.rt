@@ -50,7 +50,7 @@ fn refused_contents(ended: Ended) -> ReadContents
 }
 
 // The phase records of a state.
-fn phase_records(state: State) -> PhaseRecords
+pub fn phase_records(state: State) -> PhaseRecords
     ensures { λ r. ⌜ r ≡ record { ipd = state .ipd; opd = state .opd } ⌝ }
 {
     let ipd = state.ipd;

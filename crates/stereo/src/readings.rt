@@ -36,7 +36,7 @@ fn refused_at(number: u8, state: State) -> Reading
 }
 
 // The state that a payload is read from: out of step the fresh one.
-fn read_from(state: State) -> State
+pub fn read_from(state: State) -> State
     ensures { λ r. ⌜ r ≡ from state ⌝ }
 {
     if state.instep {
@@ -46,7 +46,7 @@ fn read_from(state: State) -> State
 }
 
 // Whether contents are accepted: in step, or where they are a restart.
-fn is_accepted(state: State, contents: Contents) -> bool
+pub fn is_accepted(state: State, contents: Contents) -> bool
     ensures { λ r. ⌜ r ≡ state .instep || restart contents ⌝ }
 {
     if state.instep {

@@ -20,15 +20,15 @@ use Rattle.words.specs.Table.{prefixFree}
 use Rattle.words.proofs.WordLaws.{word-lawful, word-spelt, word-back}
 use Rattle.words.proofs.CompleteLaws.{complete-parts, complete-never-11}
 use Rattle.tables.specs.Words.{allCodes, allLens}
-use Rattle.tables.specs.Tables.{Table, codesOf, lensOf, wordOf, ruled}
+use Rattle.tables.specs.Tables.{Table, codesOf, lensOf, wordOf, spellWord, ruled}
 use Rattle.tables.specs.Names.{tables, noTable, tableAt}
 
 -- a test holds of every table of a list
-abbrev every : (Table → Bool) → List Table → Bool
+abbrev pub every : (Table → Bool) → List Table → Bool
 every ok [] = true
 every ok (t ∷ ts) = ok t && every ok ts
 
-every-at : (ok : Table → Bool) (ts : List Table) → T (every ok ts) → (i : ℕ) → i < length ts → T (ok (getD ts i noTable))
+pub every-at : (ok : Table → Bool) (ts : List Table) → T (every ok ts) → (i : ℕ) → i < length ts → T (ok (getD ts i noTable))
 every-at ok [] e i h = absurd (not-suc-le-zero h)
 every-at ok (t ∷ ts) e zero h = and-left (ok t) (every ok ts) e
 every-at ok (t ∷ ts) e (suc i) h = every-at ok ts (and-right (ok t) (every ok ts) e) i (omega arith)
@@ -55,10 +55,6 @@ free-at i =
 
 pub lawful-at : (i : ℕ) → Lawful (wordOf (tableAt i))
 lawful-at i = word-lawful (codesOf (tableAt i)) (lensOf (tableAt i)) (free-at i)
-
--- the spelling of an entry: its word
-abbrev pub spellWord : Table → ℕ → List Piece
-spellWord t k = piece (getD (codesOf t) k 0) (getD (lensOf t) k 0) ∷ []
 
 pub spelt-at : (i : ℕ) → Spelt (wordOf (tableAt i)) [] (spellWord (tableAt i)) (λ k. (k < length (codesOf (tableAt i))) × (k < length (lensOf (tableAt i))))
 spelt-at i = word-spelt (codesOf (tableAt i)) (lensOf (tableAt i))

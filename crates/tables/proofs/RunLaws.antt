@@ -23,23 +23,23 @@ unfolding allLens
 lens-count = refl
 
 -- each is at most n
-abbrev allLe : ℕ → List ℕ → Bool
+abbrev pub allLe : ℕ → List ℕ → Bool
 allLe n [] = true
 allLe n (x ∷ xs) = leb x n && allLe n xs
 
-all-at : (n : ℕ) (xs : List ℕ) → T (allLe n xs) → (i : ℕ) → i < length xs → getD xs i 0 ≤ n
+pub all-at : (n : ℕ) (xs : List ℕ) → T (allLe n xs) → (i : ℕ) → i < length xs → getD xs i 0 ≤ n
 all-at n [] t i h = absurd (not-suc-le-zero h)
 all-at n (x ∷ xs) t zero h = leb→le x n (and-left (leb x n) (allLe n xs) t)
 all-at n (x ∷ xs) t (suc i) h = all-at n xs (and-right (leb x n) (allLe n xs) t) i (omega arith)
 
-narrow : T (allLe 20 allLens)
+pub narrow : T (allLe 20 allLens)
 unfolding allLens
 narrow = tt
 
-run-length : (xs : List ℕ) (first count : ℕ) → first + count ≤ length xs → length (run xs first count) ≡ count
+pub run-length : (xs : List ℕ) (first count : ℕ) → first + count ≤ length xs → length (run xs first count) ≡ count
 run-length xs first count h = simp (length-take, length-drop) (omega arith)
 
-run-at : (xs : List ℕ) (first count i : ℕ) → i < count → getD (run xs first count) i 0 ≡ getD xs (first + i) 0
+pub run-at : (xs : List ℕ) (first count i : ℕ) → i < count → getD (run xs first count) i 0 ≡ getD xs (first + i) 0
 run-at xs first count i h = rw (getD-take, getD-drop)
 
 -- the code may read any run

@@ -1,10 +1,11 @@
 -- A table is a run of entries of the list of all words, and of the list of all lengths.
 use Prim.Native.Nat.{ℕ}
 use mathlib.Core.Path.{_≡_}
-use mathlib.Core.List.{List}
+use mathlib.Core.List.{List, [], _∷_}
 use mathlib.Core.Bool.{Bool}
-use lib.ListN.{take, drop}
+use lib.ListN.{take, drop, getD}
 use Rattle.bits.specs.Reader.{Reader}
+use Rattle.bits.specs.Pieces.{Piece, piece}
 use Rattle.words.specs.Words.{word}
 use Rattle.words.specs.Table.{complete}
 use Rattle.tables.specs.Words.{allCodes, allLens}
@@ -29,6 +30,10 @@ lensOf t = run allLens (t .first) (t .count)
 -- the word of a table at a place
 abbrev pub wordOf : Table → Reader ℕ
 wordOf t = word (codesOf t) (lensOf t)
+
+-- the spelling of an entry: its word; an entry that there is not has no bits
+abbrev pub spellWord : Table → ℕ → List Piece
+spellWord t k = piece (getD (codesOf t) k 0) (getD (lensOf t) k 0) ∷ []
 
 -- what is lent to every reader of words
 abbrev pub Tables : List ℕ → List ℕ → Type 0

@@ -7,3 +7,4 @@ pub mod WordLaws
 pub mod CompleteLaws
 pub mod EscapeLaws
 pub mod Examples
+pub mod WordNumbered

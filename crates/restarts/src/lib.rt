@@ -1,0 +1,1 @@
+// A restart is read alike from every state: laws alone.

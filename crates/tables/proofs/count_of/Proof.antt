@@ -1,0 +1,22 @@
+use mathlib.Core.Path.{refl, _∙_}
+use Rattle.tables.specs.Tables.{Table}
+use Rattle.tables.specs.Names.{tables}
+use Rattle.tables.proofs.PlaceLaws.{each-at}
+use borrow.Author.Needs.{needs}
+use Rattle.tables.proofs.count_of.Statement.{statement}
+use Rattle.tables.proofs.count_of.Tie as tie
+use Rattle.tables.proofs.count_of.Reads as reads
+use Rattle.tables.proofs.count_of.Lts as lts
+use Rattle.tables.proofs.element.Reads as element-reads
+
+slice-aggregate-element : tie.Need-slice-aggregate-element
+slice-aggregate-element c = search needs
+
+element-requires : tie.Need-element-requires
+element-requires c κs = search needs
+
+returns : tie.Need-returns
+returns c = c .element .ensures ∙ each-at (λ (t : Table). t .count) refl tables (c .before .before .args .t)
+
+pub count-of-spec : {M : Type 1} → statement M
+count-of-spec = tie.close (tie.spec slice-aggregate-element element-requires returns)

@@ -1,0 +1,8 @@
+pub mod PayloadLawful
+pub mod PayloadNumbers
+pub mod SpellingLaws
+pub mod SameLaws
+pub mod WritingLaws
+pub mod WroteLaws
+pub mod EntryLaws
+pub mod ListSame

@@ -1,0 +1,109 @@
+-- One writing after another, and the room that is left.
+-- Assumes nothing.
+use Prim.Native.Nat.{ℕ, zero, suc, _+_, _≤_, _<_}
+use mathlib.Core.Path.{_≡_, refl, sym, _∙_, ap, subst}
+use mathlib.Core.List.{List, [], _∷_, _++_, append-assoc}
+use native.Mathlib.Omega.{arith}
+use native.Mathlib.Nat.{add-zero}
+use lib.ListN.{length, take, getD}
+use Rattle.bits.specs.Spelled.{spellEach}
+use Rattle.bits.specs.Pieces.{Piece, piece, total}
+use Rattle.bits.specs.Packed.{put, putAll}
+use Rattle.bits.proofs.Spelt.{total-append, append-nil}
+use Rattle.bits.proofs.PutLaws.{put-all-length, put-all-more}
+use lib.Seq.{take-all}
+use Rattle.differences.specs.Held.{held}
+use Rattle.differences.specs.Rows.{heldAfter}
+use Rattle.differences.specs.declared.Held.{Held}
+use Rattle.differences.specs.declared.Row.{Row}
+use Rattle.stereo.specs.Extension.{ipds, opds}
+use Rattle.stereo.specs.declared.Phases.{Phases}
+use Rattle.writer.specs.Wrote.{Wrote, Room}
+
+-- another spelling that is the same
+pub wrote-as : {a : ℕ} {x y : List ℕ} {at m : ℕ} {ps qs : List Piece} → Wrote a x at ps m y → ps ≡ qs → Wrote a x at qs m y
+wrote-as {a} {x} {y} {at} {m} p e = subst (λ (rs : List Piece). Wrote a x at rs m y) e p
+
+-- nothing is put
+pub wrote-none : {most : ℕ} {out : List ℕ} {at : ℕ} → Wrote most out at [] at out
+unfolding putAll
+wrote-none = record { holds = refl; ends = omega arith; short = omega arith }
+
+-- nothing is put where nothing is spelled
+pub wrote-nothing : {most : ℕ} {out : List ℕ} {at : ℕ} {ps : List Piece} → [] ≡ ps → Wrote most out at ps at out
+wrote-nothing e = wrote-as wrote-none e
+
+-- one piece
+pub wrote-piece : {before after : List ℕ} {at v n most : ℕ} → after ≡ put before at v n → n ≤ most → Wrote most before at (piece v n ∷ []) (at + n) after
+unfolding putAll
+wrote-piece e h = record { holds = e; ends = omega arith; short = omega arith }
+
+-- one writing after another
+pub wrote-then : {a b most : ℕ} {x y z : List ℕ} {at m n : ℕ} {ps qs : List Piece} → Wrote a x at ps m y → Wrote b y m qs n z → a + b ≤ most
+    → Wrote most x at (ps ++ qs) n z
+wrote-then {x = x} {at = at} {m = m} {ps = ps} {qs = qs} p q h = record {
+  holds = q .holds ∙ ap (λ (l : List ℕ). putAll l m qs) (p .holds) ∙ ap (λ (k : ℕ). putAll (putAll x at ps) k qs) (p .ends) ∙ sym (put-all-more x at ps qs);
+  ends = omega (arith, p .ends, q .ends, total-append ps qs);
+  short = omega (arith, p .short, q .short, total-append ps qs);
+}
+
+-- fewer is fewer still
+pub wrote-most : {a b : ℕ} {x y : List ℕ} {at m : ℕ} {ps : List Piece} → Wrote a x at ps m y → a ≤ b → Wrote b x at ps m y
+wrote-most p h = record { holds = p .holds; ends = p .ends; short = omega (arith, p .short) }
+
+-- the room after a writing
+pub room-after : {a b c : ℕ} {x y : List ℕ} {at m : ℕ} {ps : List Piece} → Wrote a x at ps m y → Room b at x → a + c ≤ b → Room c m y
+room-after {x = x} {at = at} {ps = ps} p r h = record {
+  size = ap length (p .holds) ∙ put-all-length x at ps ∙ r .size;
+  left = omega (arith, p .ends, p .short, r .left);
+}
+
+pub room-less : {a b at : ℕ} {x : List ℕ} → Room a at x → b ≤ a → Room b at x
+room-less r h = record { size = r .size; left = omega (arith, r .left) }
+
+-- one more of a list is spelled after those before it
+each-suc : {A : Type 0} (w : List A → A → List Piece) (z : A) (done xs : List A) (i : ℕ) → i < length xs
+    → spellEach w done (take i xs) ++ w (done ++ take i xs) (getD xs i z) ≡ spellEach w done (take (suc i) xs)
+each-suc w z done [] i h = absurd (omega arith)
+each-suc w z done (x ∷ xs) zero h = rw (append-nil, append-nil)
+each-suc w z done (x ∷ xs) (suc i) h =
+    append-assoc (w done x) _ _
+    ∙ ap (λ (ps : List Piece). w done x ++ ps) (rw (append-assoc done (x ∷ []) (take i xs)) at (each-suc w z (done ++ x ∷ []) xs i (omega arith)))
+
+pub each-more : {A : Type 0} (w : List A → A → List Piece) (z : A) (xs : List A) (i : ℕ) → i < length xs
+    → spellEach w [] (take i xs) ++ w (take i xs) (getD xs i z) ≡ spellEach w [] (take (i + 1) xs)
+each-more w z xs i h = let e : i + 1 ≡ suc i = omega arith in rw e (each-suc w z [] xs i h)
+
+-- the array keeps its length
+pub wrote-length : {a : ℕ} {x y : List ℕ} {at m : ℕ} {ps : List Piece} → Wrote a x at ps m y → length y ≡ length x
+wrote-length {x = x} {at = at} {ps = ps} p = ap length (p .holds) ∙ put-all-length x at ps
+
+-- the whole of a list, taken in two ways
+pub taken-whole : {A : Type 0} (m n : ℕ) (xs : List A) → length xs ≤ m → length xs ≤ n → take m xs ≡ take n xs
+taken-whole m n xs h g = take-all m xs h ∙ sym (take-all n xs g)
+
+-- the record after one row more
+held-suc : (h : Held) (mode : ℕ) (rs : List Row) (k : ℕ) (z : Row) → k < length rs → heldAfter h mode (take (suc k) rs) ≡ held mode (getD rs k z .indices)
+held-suc h mode [] k z l = absurd (omega arith)
+held-suc h mode (r ∷ rs) zero z l = refl
+held-suc h mode (r ∷ rs) (suc k) z l = held-suc (held mode (r .indices)) mode rs k z (omega arith)
+
+pub held-more : (h : Held) (mode : ℕ) (rs : List Row) (k : ℕ) (z : Row) → k < length rs → held mode (getD rs k z .indices) ≡ heldAfter h mode (take (k + 1) rs)
+held-more h mode rs k z l = let e : k + 1 ≡ suc k = omega arith in rw e (sym (held-suc h mode rs k z l))
+
+-- the records after one envelope of phases more
+ipd-suc : (h : Held) (mode : ℕ) (ps : List Phases) (k : ℕ) (z : Phases) → k < length ps → heldAfter h mode (ipds (take (suc k) ps)) ≡ held mode (getD ps k z .ipd .indices)
+ipd-suc h mode [] k z l = absurd (omega arith)
+ipd-suc h mode (p ∷ ps) zero z l = refl
+ipd-suc h mode (p ∷ ps) (suc k) z l = ipd-suc (held mode (p .ipd .indices)) mode ps k z (omega arith)
+
+pub ipd-more : (h : Held) (mode : ℕ) (ps : List Phases) (k : ℕ) (z : Phases) → k < length ps → held mode (getD ps k z .ipd .indices) ≡ heldAfter h mode (ipds (take (k + 1) ps))
+ipd-more h mode ps k z l = let e : k + 1 ≡ suc k = omega arith in rw e (sym (ipd-suc h mode ps k z l))
+
+opd-suc : (h : Held) (mode : ℕ) (ps : List Phases) (k : ℕ) (z : Phases) → k < length ps → heldAfter h mode (opds (take (suc k) ps)) ≡ held mode (getD ps k z .opd .indices)
+opd-suc h mode [] k z l = absurd (omega arith)
+opd-suc h mode (p ∷ ps) zero z l = refl
+opd-suc h mode (p ∷ ps) (suc k) z l = opd-suc (held mode (p .opd .indices)) mode ps k z (omega arith)
+
+pub opd-more : (h : Held) (mode : ℕ) (ps : List Phases) (k : ℕ) (z : Phases) → k < length ps → held mode (getD ps k z .opd .indices) ≡ heldAfter h mode (opds (take (k + 1) ps))
+opd-more h mode ps k z l = let e : k + 1 ≡ suc k = omega arith in rw e (sym (opd-suc h mode ps k z l))

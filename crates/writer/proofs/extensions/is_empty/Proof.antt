@@ -1,0 +1,21 @@
+use native.Mathlib.Nat.{zero-add}
+use Prim.Native.Nat.{_+_}
+use borrow.Author.Tests.{eq-eqb, ne-eqb}
+use native.Mathlib.Omega.{arith}
+use mathlib.Core.Path.{ap}
+use lib.Dec.{eqb}
+use Rattle.writer.proofs.extensions.is_empty.Statement.{statement}
+use Rattle.writer.proofs.extensions.is_empty.Tie as tie
+use Rattle.writer.proofs.extensions.is_empty.Reads as reads
+use Rattle.writer.proofs.extensions.is_empty.Lts as lts
+
+-- src/extensions.rt:130:9
+returns : tie.Need-returns
+returns c = rw (c .if1 .taken, zero-add)
+
+-- src/extensions.rt:126:1
+returns-2 : tie.Need-returns-2
+returns-2 c = rw (ne-eqb (c .before .args .size + c .before .args .esc) 0 (omega arith))
+
+pub is-empty-spec : {M : Type 1} → statement M
+is-empty-spec = tie.close (tie.spec returns returns-2)

@@ -1,0 +1,52 @@
+use Rattle.writer.proofs.WroteLaws.{wrote-then}
+use Rattle.writer.specs.Spelling.{spellBody}
+use native.Mathlib.Omega.{arith}
+use borrow.Author.Needs.{needs}
+use Rattle.writer.proofs.extensions.put_body.Statement.{statement}
+use Rattle.writer.proofs.extensions.put_body.Tie as tie
+use Rattle.writer.proofs.extensions.put_body.Reads as reads
+use Rattle.writer.proofs.extensions.put_body.Lts as lts
+use Rattle.writer.proofs.extensions.put_all_phases.Reads as put-all-phases-reads
+use Rattle.writer.proofs.fields.put_field.Reads as put-field-reads
+
+-- src/extensions.rt:74:9
+put-field-requires : tie.Need-put-field-requires
+put-field-requires c κs = search needs
+
+-- src/extensions.rt:75:9
+put-field-requires-2 : tie.Need-put-field-requires-2
+put-field-requires-2 c κs = search needs
+
+-- src/extensions.rt:77:9
+put-all-phases-requires : tie.Need-put-all-phases-requires
+put-all-phases-requires c κs = search needs
+
+-- src/extensions.rt:78:5
+put-field-requires-3 : tie.Need-put-field-requires-3
+put-field-requires-3 c κs = search needs
+
+-- src/extensions.rt:61:1
+same-length : tie.Need-same-length
+same-length c = search needs
+
+-- src/extensions.rt:61:1
+returns : tie.Need-returns
+unfolding spellBody
+returns c = let d = c .before .before in
+    let k = d .before .before .before .before in
+    let b = k .before .before .before .before .before in
+    let a = b .before .before .before .before in
+    let three = wrote-then {most = 3} (a .put-field .ensures) (b .put-field2 .ensures) (omega arith) in
+    let most = wrote-then {most = 5451} three (k .put-all-phases .ensures) (omega arith) in
+    wrote-then most (d .put-field3 .ensures) (omega arith)
+
+pub put-body-spec : {M : Type 1} → statement M
+put-body-spec =
+    tie.close
+    (tie.spec
+    put-field-requires
+    put-field-requires-2
+    put-all-phases-requires
+    put-field-requires-3
+    same-length
+    returns)

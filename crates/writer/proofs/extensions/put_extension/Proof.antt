@@ -1,0 +1,61 @@
+use Rattle.writer.proofs.WroteLaws.{wrote-nothing, wrote-then, wrote-as, wrote-most}
+use Rattle.writer.specs.Spelling.{spellExtension, spellSent, spellAnnounced}
+use borrow.Author.Tests.{not-true, not-false}
+use native.Mathlib.Omega.{arith}
+use borrow.Author.Needs.{needs}
+use Rattle.writer.proofs.extensions.put_extension.Statement.{statement}
+use Rattle.writer.proofs.extensions.put_extension.Tie as tie
+use Rattle.writer.proofs.extensions.put_extension.Reads as reads
+use Rattle.writer.proofs.extensions.put_extension.Lts as lts
+use Rattle.writer.proofs.extensions.is_empty.Reads as is-empty-reads
+use Rattle.writer.proofs.extensions.put_announced.Reads as put-announced-reads
+use Rattle.writer.proofs.extensions.put_escape.Reads as put-escape-reads
+use Rattle.writer.proofs.fields.put_field.Reads as put-field-reads
+
+-- src/extensions.rt:151:9
+returns : tie.Need-returns
+unfolding spellExtension
+returns c = wrote-nothing (rw (not-true (c .before .before .before .before .args .on) (c .if1 .taken)))
+
+-- src/extensions.rt:153:9
+put-field-requires : tie.Need-put-field-requires
+put-field-requires c κs = search needs
+
+-- src/extensions.rt:154:9
+put-escape-requires : tie.Need-put-escape-requires
+put-escape-requires c κs = search needs
+
+-- src/extensions.rt:162:9
+is-empty-requires : tie.Need-is-empty-requires
+is-empty-requires c κs = search needs
+
+-- src/extensions.rt:156:5
+put-announced-requires : tie.Need-put-announced-requires
+put-announced-requires c κs = search needs
+
+-- src/extensions.rt:136:1
+same-length : tie.Need-same-length
+same-length c = search needs
+
+-- src/extensions.rt:136:1
+returns-2 : tie.Need-returns-2
+unfolding spellExtension spellSent spellAnnounced
+returns-2 c = let k = c .before .before in
+    let s = k .before in
+    let b = s .before .before .before .before .before in
+    let a = b .before .before .before .before in
+    let f = a .before .before in
+    let twelve = wrote-then {most = 12} (a .put-field .ensures) (b .put-escape .ensures) (omega arith) in
+    wrote-as (wrote-then twelve (k .put-announced .ensures) (omega arith)) (rw (not-false (f .before .before .before .before .args .on) (f .if1 .left), s .is-empty .ensures))
+
+pub put-extension-spec : {M : Type 1} → statement M
+put-extension-spec =
+    tie.close
+    (tie.spec
+    returns
+    put-field-requires
+    put-escape-requires
+    is-empty-requires
+    put-announced-requires
+    same-length
+    returns-2)

@@ -1,0 +1,59 @@
+use Rattle.writer.proofs.WroteLaws.{wrote-then}
+use Rattle.writer.specs.Spelling.{spellFields}
+use native.Mathlib.Omega.{arith}
+use borrow.Author.Needs.{needs}
+use Rattle.writer.proofs.fields.put_fields.Statement.{statement}
+use Rattle.writer.proofs.fields.put_fields.Tie as tie
+use Rattle.writer.proofs.fields.put_fields.Reads as reads
+use Rattle.writer.proofs.fields.put_fields.Lts as lts
+use Rattle.writer.proofs.fields.put_field.Reads as put-field-reads
+use Rattle.writer.proofs.fields.put_mode.Reads as put-mode-reads
+
+-- src/fields.rt:34:9
+put-field-requires : tie.Need-put-field-requires
+put-field-requires c κs = search needs
+
+-- src/fields.rt:35:9
+put-mode-requires : tie.Need-put-mode-requires
+put-mode-requires c κs = search needs
+
+-- src/fields.rt:36:9
+put-field-requires-2 : tie.Need-put-field-requires-2
+put-field-requires-2 c κs = search needs
+
+-- src/fields.rt:37:9
+put-mode-requires-2 : tie.Need-put-mode-requires-2
+put-mode-requires-2 c κs = search needs
+
+-- src/fields.rt:38:5
+put-field-requires-3 : tie.Need-put-field-requires-3
+put-field-requires-3 c κs = search needs
+
+-- src/fields.rt:30:1
+same-length : tie.Need-same-length
+same-length c = search needs
+
+-- src/fields.rt:30:1
+returns : tie.Need-returns
+unfolding spellFields
+returns c = let e = c .before .before in
+    let d = e .before .before .before .before in
+    let k = d .before .before .before .before in
+    let b = k .before .before .before .before in
+    let a = b .before .before .before .before in
+    let four = wrote-then {most = 4} (a .put-field .ensures) (b .put-mode .ensures) (omega arith) in
+    let five = wrote-then {most = 5} four (k .put-field2 .ensures) (omega arith) in
+    let eight = wrote-then {most = 8} five (d .put-mode2 .ensures) (omega arith) in
+    wrote-then eight (e .put-field3 .ensures) (omega arith)
+
+pub put-fields-spec : {M : Type 1} → statement M
+put-fields-spec =
+    tie.close
+    (tie.spec
+    put-field-requires
+    put-mode-requires
+    put-field-requires-2
+    put-mode-requires-2
+    put-field-requires-3
+    same-length
+    returns)

@@ -1,0 +1,46 @@
+use Rattle.writer.proofs.WroteLaws.{wrote-then, wrote-as, wrote-most}
+use Rattle.writer.specs.Spelling.{spellHeader}
+use borrow.Author.Tests.{eq-eqb, ne-eqb}
+use native.Mathlib.Omega.{arith}
+use borrow.Author.Needs.{needs}
+use Rattle.writer.proofs.fields.put_header.Statement.{statement}
+use Rattle.writer.proofs.fields.put_header.Tie as tie
+use Rattle.writer.proofs.fields.put_header.Reads as reads
+use Rattle.writer.proofs.fields.put_header.Lts as lts
+use Rattle.writer.proofs.fields.put_field.Reads as put-field-reads
+use Rattle.writer.proofs.fields.put_fields.Reads as put-fields-reads
+
+-- src/fields.rt:46:9
+put-field-requires : tie.Need-put-field-requires
+put-field-requires c κs = search needs
+
+-- src/fields.rt:48:9
+put-fields-requires : tie.Need-put-fields-requires
+put-fields-requires c κs = search needs
+
+-- src/fields.rt:48:9
+same-length : tie.Need-same-length
+same-length c = search needs
+
+-- src/fields.rt:48:9
+returns : tie.Need-returns
+unfolding spellHeader
+returns c = let b = c .before .before in
+    let t = b .before .before in
+    let a = t .before .before .before .before in
+    wrote-as (wrote-then (a .put-field .ensures) (b .put-fields .ensures) (omega arith)) (rw (eq-eqb _ _ (t .if1 .taken)))
+
+-- src/fields.rt:42:1
+same-length-2 : tie.Need-same-length-2
+same-length-2 c = search needs
+
+-- src/fields.rt:42:1
+returns-2 : tie.Need-returns-2
+unfolding spellHeader
+returns-2 c = let a = c .before .before .before .before in
+    wrote-as (wrote-most (a .put-field .ensures) (omega arith)) (rw (ne-eqb _ _ (c .if1 .left)))
+
+pub put-header-spec : {M : Type 1} → statement M
+put-header-spec =
+    tie.close
+    (tie.spec put-field-requires put-fields-requires same-length returns same-length-2 returns-2)

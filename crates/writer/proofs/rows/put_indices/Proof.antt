@@ -1,0 +1,102 @@
+use Rattle.writer.proofs.WroteLaws.{wrote-length}
+use Rattle.writer.proofs.WroteLaws.{wrote-none, wrote-then, wrote-as, wrote-most, room-after, each-more}
+use Rattle.writer.specs.Spelling.{entryTo, spellIndex}
+use Rattle.writer.specs.Wrote.{Wrote, Room}
+use Rattle.differences.specs.Indices.{reference}
+use Rattle.differences.specs.Kind.{bands}
+use Rattle.tables.specs.Tables.{spellWord}
+use Rattle.tables.specs.Names.{tableAt}
+use Rattle.bits.specs.Spelled.{spellEach}
+use Rattle.bits.specs.Pieces.{Piece}
+use lib.IntN.{ℤ, pos}
+use lib.ListN.{take, getD, length}
+use borrow.Author.Needs.{needs}
+use native.Mathlib.Omega.{arith}
+use mathlib.Core.List.{List, []}
+use mathlib.Core.Path.{_≡_, sym, _∙_, ap}
+use Prim.Native.Nat.{ℕ, _+_, _-_, _*_, _≤_, _<_}
+use Rattle.writer.proofs.rows.put_indices.Statement.{statement}
+use Rattle.writer.proofs.rows.put_indices.Tie as tie
+use Rattle.writer.proofs.rows.put_indices.Reads as reads
+use Rattle.writer.proofs.rows.put_indices.Lts as lts
+use Rattle.differences.proofs.kinds.bands.Reads as bands-reads
+use Rattle.differences.proofs.steps.difference_table.Reads as difference-table-reads
+use Rattle.writer.proofs.rows.entry_at.Reads as entry-at-reads
+use Rattle.writer.proofs.rows.put_word.Reads as put-word-reads
+
+abbrev Inv-loop : tie.InvT-loop
+Inv-loop out₀ at kind mode time before xs codes lens count table place₀ i₀ out place i = (i ≤ count) × (length xs ≡ 34) × Wrote (20 * i) out₀ at (spellEach (spellIndex kind mode time before) [] (take i xs)) place out
+
+abbrev μ-loop : tie.MeasureT-loop
+μ-loop out₀ at kind mode time before xs codes lens count table place₀ i₀ out place i = count - i
+
+-- src/rows.rt:80:9
+bands-requires : tie.Need-bands-requires Inv-loop μ-loop
+bands-requires c κs = search needs
+
+-- src/rows.rt:81:9
+difference-table-requires : tie.Need-difference-table-requires Inv-loop μ-loop
+difference-table-requires c κs = search needs
+
+-- src/rows.rt:84:5
+loop-holds : tie.Need-loop-holds Inv-loop μ-loop
+loop-holds c = (omega arith, search needs, wrote-none)
+
+-- src/rows.rt:85:13
+entry-at-requires : tie.Need-entry-at-requires Inv-loop μ-loop
+entry-at-requires c κs = search needs
+
+-- src/rows.rt:86:9
+put-word-requires : tie.Need-put-word-requires Inv-loop μ-loop
+put-word-requires c κs = let l = c .before .before .before in
+    let p = l .before .before .before .before .before .before .pre in
+    let n = l .before .before .bands .ensures .1 in
+    (room-after (l .loop .inv .2) (p .0) (omega arith), p .1)
+
+-- src/rows.rt:87:9
+add-i : tie.Need-add-i Inv-loop μ-loop
+add-i c = search needs
+
+-- src/rows.rt:84:5
+loop-less : tie.Need-loop-less Inv-loop μ-loop
+loop-less c = search needs
+
+-- src/rows.rt:84:5
+loop-again : tie.Need-loop-again Inv-loop μ-loop
+loop-again c = let l = c .before .before .before .before .before .before in
+    let a = l .before .before .before .before .before .before .args in
+    let n = l .loop .inv .1 in
+    let b = l .before .before .bands .ensures .1 in
+    let t = l .before .difference-table .ensures .0 in
+    let w = c .before .before .put-word .ensures in
+    let e = c .before .before .before .before .entry-at .ensures in
+    (omega arith, n, wrote-as (wrote-then (l .loop .inv .2) w (omega arith)) (rw (t, e) (each-more (spellIndex (a .kind) (a .mode) (a .time) (a .before)) (pos 0) (a .xs) (l .loop .i) (omega arith))))
+
+-- src/rows.rt:66:1
+same-length : tie.Need-same-length Inv-loop μ-loop
+same-length c = wrote-length (c .before .loop .inv .2)
+
+-- src/rows.rt:66:1
+returns : tie.Need-returns Inv-loop μ-loop
+returns c = let l = c .before in
+    let a = l .before .before .before .before .before .before .args in
+    let b = l .before .before .bands .ensures in
+    let e : l .loop .i ≡ bands (a .kind) (a .mode) = omega (arith, b .0) in
+    wrote-as (wrote-most (l .loop .inv .2) (omega arith)) (rw e)
+
+pub put-indices-spec : {M : Type 1} → statement M
+put-indices-spec =
+    tie.close
+    (tie.spec
+    Inv-loop
+    μ-loop
+    bands-requires
+    difference-table-requires
+    loop-holds
+    entry-at-requires
+    put-word-requires
+    add-i
+    loop-less
+    loop-again
+    same-length
+    returns)

@@ -1,0 +1,32 @@
+use Rattle.writer.proofs.WroteLaws.{wrote-then}
+use Rattle.writer.specs.Spelling.{spellRow}
+use native.Mathlib.Omega.{arith}
+use borrow.Author.Needs.{needs}
+use Rattle.writer.proofs.rows.put_row.Statement.{statement}
+use Rattle.writer.proofs.rows.put_row.Tie as tie
+use Rattle.writer.proofs.rows.put_row.Reads as reads
+use Rattle.writer.proofs.rows.put_row.Lts as lts
+use Rattle.writer.proofs.fields.put_field.Reads as put-field-reads
+use Rattle.writer.proofs.rows.put_indices.Reads as put-indices-reads
+
+-- src/rows.rt:106:9
+put-field-requires : tie.Need-put-field-requires
+put-field-requires c κs = search needs
+
+-- src/rows.rt:109:5
+put-indices-requires : tie.Need-put-indices-requires
+put-indices-requires c κs = search needs
+
+-- src/rows.rt:93:1
+same-length : tie.Need-same-length
+same-length c = search needs
+
+-- src/rows.rt:93:1
+returns : tie.Need-returns
+unfolding spellRow
+returns c = let b = c .before .before in
+    let a = b .before .before .before .before .before .before in
+    wrote-then (a .put-field .ensures) (b .put-indices .ensures) (omega arith)
+
+pub put-row-spec : {M : Type 1} → statement M
+put-row-spec = tie.close (tie.spec put-field-requires put-indices-requires same-length returns)

@@ -1,0 +1,26 @@
+use Rattle.writer.specs.Same.{sameBody}
+use borrow.Author.Tests.{eq-eqb, ne-eqb}
+use mathlib.Core.Path.{_≡_, sym, _∙_, ap}
+use borrow.Author.Needs.{needs}
+use Rattle.writer.proofs.same.same_body.Statement.{statement}
+use Rattle.writer.proofs.same.same_body.Tie as tie
+use Rattle.writer.proofs.same.same_body.Reads as reads
+use Rattle.writer.proofs.same.same_body.Lts as lts
+use Rattle.writer.proofs.same.same_all_phases.Reads as same-all-phases-reads
+
+-- src/same.rt:92:9
+returns : tie.Need-returns
+unfolding sameBody
+returns c = rw (ne-eqb _ _ (c .if1 .taken))
+
+-- src/same.rt:96:5
+same-all-phases-requires : tie.Need-same-all-phases-requires
+same-all-phases-requires c κs = search needs
+
+-- src/same.rt:88:1
+returns-2 : tie.Need-returns-2
+unfolding sameBody
+returns-2 c = c .same-all-phases .ensures ∙ rw (eq-eqb _ _ (c .before .before .before .if1 .left))
+
+pub same-body-spec : {M : Type 1} → statement M
+same-body-spec = tie.close (tie.spec returns same-all-phases-requires returns-2)

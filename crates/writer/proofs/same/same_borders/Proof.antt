@@ -1,0 +1,73 @@
+use Rattle.writer.proofs.ListSame.{SoFar, same-start, same-more, same-stop, same-done}
+use lib.Dec.{eqb}
+use borrow.Author.Tests.{eq-eqb, ne-eqb}
+use borrow.Author.Needs.{needs}
+use native.Mathlib.Omega.{arith}
+use Prim.Native.Nat.{_-_}
+use Rattle.writer.proofs.same.same_borders.Statement.{statement}
+use Rattle.writer.proofs.same.same_borders.Tie as tie
+use Rattle.writer.proofs.same.same_borders.Reads as reads
+use Rattle.writer.proofs.same.same_borders.Lts as lts
+
+abbrev Inv-loop : tie.InvT-loop
+Inv-loop xs ys i₀ i = SoFar eqb 0 4 i xs ys
+
+abbrev μ-loop : tie.MeasureT-loop
+μ-loop xs ys i₀ i = 4 - i
+
+-- src/same.rt:159:5
+loop-holds : tie.Need-loop-holds Inv-loop μ-loop
+loop-holds c = same-start eqb 0 4 _ _ (search needs) (search needs)
+
+-- src/same.rt:160:12
+mul-if1 : tie.Need-mul-if1 Inv-loop μ-loop
+mul-if1 c = search needs
+
+-- src/same.rt:160:12
+array-read-if1 : tie.Need-array-read-if1 Inv-loop μ-loop
+array-read-if1 c = search needs
+
+-- src/same.rt:160:21
+mul-if1-2 : tie.Need-mul-if1-2 Inv-loop μ-loop
+mul-if1-2 c = search needs
+
+-- src/same.rt:160:21
+array-read-if1-2 : tie.Need-array-read-if1-2 Inv-loop μ-loop
+array-read-if1-2 c = search needs
+
+-- src/same.rt:161:13
+returns : tie.Need-returns Inv-loop μ-loop
+returns c = same-stop eqb 0 (c .before .before .loop .inv) (omega arith) (ne-eqb _ _ (c .if1 .taken))
+
+-- src/same.rt:163:9
+add-i : tie.Need-add-i Inv-loop μ-loop
+add-i c = search needs
+
+-- src/same.rt:159:5
+loop-less : tie.Need-loop-less Inv-loop μ-loop
+loop-less c = search needs
+
+-- src/same.rt:159:5
+loop-again : tie.Need-loop-again Inv-loop μ-loop
+loop-again c = same-more eqb 0 (c .before .before .loop .inv) (omega arith) (eq-eqb _ _ (c .if1 .left))
+
+-- src/same.rt:155:1
+returns-2 : tie.Need-returns-2 Inv-loop μ-loop
+returns-2 c = same-done eqb 0 (c .before .loop .inv) (omega arith)
+
+pub same-borders-spec : {M : Type 1} → statement M
+same-borders-spec =
+    tie.close
+    (tie.spec
+    Inv-loop
+    μ-loop
+    loop-holds
+    mul-if1
+    array-read-if1
+    mul-if1-2
+    array-read-if1-2
+    returns
+    add-i
+    loop-less
+    loop-again
+    returns-2)

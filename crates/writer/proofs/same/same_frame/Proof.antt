@@ -1,0 +1,32 @@
+use Rattle.writer.specs.Same.{sameFrame}
+use borrow.Author.Tests.{eq-eqb, ne-eqb}
+use mathlib.Core.Path.{_≡_, sym, _∙_, ap}
+use borrow.Author.Needs.{needs}
+use Rattle.writer.proofs.same.same_frame.Statement.{statement}
+use Rattle.writer.proofs.same.same_frame.Tie as tie
+use Rattle.writer.proofs.same.same_frame.Reads as reads
+use Rattle.writer.proofs.same.same_frame.Lts as lts
+use Rattle.writer.proofs.same.same_borders.Reads as same-borders-reads
+
+-- src/same.rt:173:9
+returns : tie.Need-returns
+unfolding sameFrame
+returns c = rw (ne-eqb _ _ (c .if1 .taken))
+
+-- src/same.rt:176:9
+returns-2 : tie.Need-returns-2
+unfolding sameFrame
+returns-2 c = rw (eq-eqb _ _ (c .before .before .before .if1 .left), ne-eqb _ _ (c .if2 .taken))
+
+-- src/same.rt:180:5
+same-borders-requires : tie.Need-same-borders-requires
+same-borders-requires c κs = search needs
+
+-- src/same.rt:169:1
+returns-3 : tie.Need-returns-3
+unfolding sameFrame
+returns-3 c = let t = c .before .before .before in
+    c .same-borders .ensures ∙ rw (eq-eqb _ _ (t .before .before .before .if1 .left), eq-eqb _ _ (t .if2 .left))
+
+pub same-frame-spec : {M : Type 1} → statement M
+same-frame-spec = tie.close (tie.spec returns returns-2 same-borders-requires returns-3)

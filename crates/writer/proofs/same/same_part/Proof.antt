@@ -1,0 +1,32 @@
+use Rattle.writer.specs.Same.{samePart}
+use borrow.Author.Tests.{eq-eqb, ne-eqb}
+use mathlib.Core.Path.{_≡_, sym, _∙_, ap}
+use borrow.Author.Needs.{needs}
+use Rattle.writer.proofs.same.same_part.Statement.{statement}
+use Rattle.writer.proofs.same.same_part.Tie as tie
+use Rattle.writer.proofs.same.same_part.Reads as reads
+use Rattle.writer.proofs.same.same_part.Lts as lts
+use Rattle.writer.proofs.same.same_body.Reads as same-body-reads
+
+-- src/same.rt:104:9
+returns : tie.Need-returns
+unfolding samePart
+returns c = rw (ne-eqb _ _ (c .if1 .taken))
+
+-- src/same.rt:107:9
+returns-2 : tie.Need-returns-2
+unfolding samePart
+returns-2 c = rw (eq-eqb _ _ (c .before .before .before .if1 .left), ne-eqb _ _ (c .if2 .taken))
+
+-- src/same.rt:111:5
+same-body-requires : tie.Need-same-body-requires
+same-body-requires c κs = search needs
+
+-- src/same.rt:100:1
+returns-3 : tie.Need-returns-3
+unfolding samePart
+returns-3 c = let t = c .before .before .before in
+    c .same-body .ensures ∙ rw (eq-eqb _ _ (t .before .before .before .if1 .left), eq-eqb _ _ (t .if2 .left))
+
+pub same-part-spec : {M : Type 1} → statement M
+same-part-spec = tie.close (tie.spec returns returns-2 same-body-requires returns-3)

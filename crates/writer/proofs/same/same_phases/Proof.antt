@@ -1,0 +1,31 @@
+use Rattle.writer.specs.Same.{samePhases}
+use borrow.Author.Tests.{not-true, not-false}
+use mathlib.Core.Path.{_≡_, sym, _∙_, ap}
+use borrow.Author.Needs.{needs}
+use Rattle.writer.proofs.same.same_phases.Statement.{statement}
+use Rattle.writer.proofs.same.same_phases.Tie as tie
+use Rattle.writer.proofs.same.same_phases.Reads as reads
+use Rattle.writer.proofs.same.same_phases.Lts as lts
+use Rattle.writer.proofs.same.same_row.Reads as same-row-reads
+
+-- src/same.rt:63:9
+same-row-requires : tie.Need-same-row-requires
+same-row-requires c κs = search needs
+
+-- src/same.rt:64:9
+returns : tie.Need-returns
+unfolding samePhases
+returns c = rw (← (c .before .same-row .ensures), not-true (c .before .same-row .result) (c .if1 .taken))
+
+-- src/same.rt:68:5
+same-row-requires-2 : tie.Need-same-row-requires-2
+same-row-requires-2 c κs = search needs
+
+-- src/same.rt:58:1
+returns-2 : tie.Need-returns-2
+unfolding samePhases
+returns-2 c = let t = c .before .before .before in
+    c .same-row2 .ensures ∙ rw (← (t .before .same-row .ensures), not-false (t .before .same-row .result) (t .if1 .left))
+
+pub same-phases-spec : {M : Type 1} → statement M
+same-phases-spec = tie.close (tie.spec same-row-requires returns same-row-requires-2 returns-2)

@@ -1,0 +1,4 @@
+pub mod Spelling
+pub mod Same
+pub mod Wrote
+pub mod Writing
