@@ -10,3 +10,4 @@ pub mod PayloadNear
 pub mod BytesLaws
 pub mod All
 pub mod Examples
+pub mod StereoLaws

@@ -1,0 +1,44 @@
+-- Laws of the stereo reader: no byte outside the range counts; a cut is refused with 10, in step and out of step; what a refusal and a report leave
+-- is as sound as the state was.
+-- Assumes nothing.
+use Prim.Native.Nat.{ℕ, _*_, _<_}
+use mathlib.Core.Path.{_≡_, refl, sym, _∙_, ap}
+use mathlib.Core.Bool.{Bool, true, false}
+use mathlib.Core.List.{List}
+use lib.ListN.{length, take}
+use Rattle.bits.specs.Reader.{got}
+use Rattle.bits.specs.Payload.{inBuffer, range, whole}
+use Rattle.differences.specs.Held.{zeros, none, soundIndex, soundFrom, soundHeld}
+use Rattle.differences.specs.Kind.{within}
+use Rattle.stereo.specs.State.{freshSetup, fresh, soundSetup, sound, lost}
+use Rattle.stereo.specs.Payload.{payload}
+use Rattle.stereo.specs.Stereo.{from, refusal, readBytes, readFrom, missing}
+use Rattle.stereo.specs.declared.State.{State}
+use Rattle.stereo.specs.declared.Contents.{Contents}
+use Rattle.stereo.proofs.PayloadLaws.{payload-cut}
+
+-- two ranges of the same bytes are read alike, whatever stands around them
+pub outside-counts-not : (st : State) (b b′ : List ℕ) (start end start′ end′ : ℕ) → inBuffer start end (length b) ≡ true → inBuffer start′ end′ (length b′) ≡ true
+    → range b start end ≡ range b′ start′ end′ → readFrom st b start end ≡ readFrom st b′ start′ end′
+unfolding readFrom
+outside-counts-not st b b′ start end start′ end′ h k e = rw (h, k, e)
+
+-- a payload that was read, cut so that fewer bits are there than it used: 10, and only the mark is touched
+pub read-cut : (st : State) (s : List ℕ) (next : ℕ) (c : Contents) (k : ℕ) → whole (payload (from st)) s ≡ got c next → 8 * k < next
+    → readBytes st (take k s) ≡ refusal 10 (lost st)
+unfolding readBytes
+read-cut st s next c k e h = rw (payload-cut (from st) s next c k e h .1)
+
+-- the fresh state is sound, and so is what is lost of a sound one
+pub fresh-sound : sound fresh ≡ true
+unfolding sound fresh freshSetup soundSetup soundHeld soundFrom soundIndex none zeros within
+fresh-sound = refl
+
+pub lost-sound : (st : State) → sound (lost st) ≡ sound st
+unfolding sound
+lost-sound st = refl
+
+-- a report of a sound state leaves a sound state
+pub missing-sound : (st : State) → sound st ≡ true → sound (missing st .state) ≡ true
+unfolding missing
+missing-sound st h = rw h (lost-sound st ∙ h)
