@@ -1,15 +1,42 @@
 // A payload's contents, put into the scratch array as they are read from a state.
+ghost use mathlib.Core.List.{_++_};
 ghost use Rattle.tables.specs.Tables.{Tables};
+ghost use Rattle.differences.specs.declared.Kind.the-variants.{Iid};
 ghost use Rattle.writer.specs.Wrote.{Wrote, Room};
-ghost use Rattle.writer.specs.Spelling.{spelling};
+ghost use Rattle.writer.specs.Spelling.{spellHeader, spellFrame, spellRows, spelling};
 use crate::extensions::put_extension;
 use crate::fields;
 use crate::rows::put_rows;
 use differences::Kind;
 use stereo::Contents;
+use stereo::Setup;
 use stereo::State;
 use stereo::headers;
 use stereo::payloads;
+
+// The header, the frame and the levels, from the first bit on.
+fn put_levels(
+    out: &mut [u8],
+    state: State,
+    setup: Setup,
+    contents: Contents,
+    codes: &[u32],
+    lens: &[u8],
+) -> usize
+    requires { ⌜ Room 12288 0 (now out) × Tables (now codes) (now lens) ⌝ }
+    ensures { λ r. ⌜ Wrote 2757 (now (out .entry)) 0 (spellHeader (contents .header) ++ spellFrame (contents .frame) ++ spellRows Iid (setup .iid) (setup .iidmode) (state .iid) (contents .frame .envelopes) (contents .iid)) r (now (out .exit)) ⌝ }
+{
+    let header = contents.header;
+    let a = fields::put_header(out, 0, header);
+    let frame = contents.frame;
+    let b = fields::put_frame(out, a, frame);
+    let n = frame.envelopes;
+    let on = setup.iid;
+    let mode = setup.iidmode;
+    let rows = contents.iid;
+    let held = state.iid;
+    put_rows(out, b, Kind::Iid, on, mode, held, n, rows, codes, lens)
+}
 
 // The contents of a payload, from the first bit on.
 pub fn put_contents(
@@ -24,50 +51,15 @@ pub fn put_contents(
 {
     let before = state.setup;
     let header = contents.header;
-    let setup = headers::setup_after(before, header);
-    let a = fields::put_header(out, 0, header);
+    let f = headers::setup_after(before, header);
+    let a = put_levels(out, state, f, contents, codes, lens);
     let frame = contents.frame;
-    let b = fields::put_frame(out, a, frame);
     let n = frame.envelopes;
-    let levels = contents.iid;
-    let iid = state.iid;
-    let c = put_rows(
-        out,
-        b,
-        Kind::Iid,
-        setup.iid,
-        setup.iidmode,
-        iid,
-        n,
-        levels,
-        codes,
-        lens,
-    );
-    let coherences = contents.icc;
-    let icc = state.icc;
-    let d = put_rows(
-        out,
-        c,
-        Kind::Icc,
-        setup.icc,
-        setup.iccmode,
-        icc,
-        n,
-        coherences,
-        codes,
-        lens,
-    );
+    let rows = contents.icc;
+    let held = state.icc;
+    let kind = Kind::Icc;
+    let b = put_rows(out, a, kind, f.icc, f.iccmode, held, n, rows, codes, lens);
     let records = payloads::phase_records(state);
-    let extension = contents.extension;
-    put_extension(
-        out,
-        d,
-        setup.ext,
-        setup.iidmode,
-        records,
-        n,
-        extension,
-        codes,
-        lens,
-    )
+    let x = contents.extension;
+    put_extension(out, b, f.ext, f.iidmode, records, n, x, codes, lens)
 }

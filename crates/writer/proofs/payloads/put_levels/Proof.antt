@@ -1,0 +1,33 @@
+use borrow.Author.Needs.{needs}
+use Rattle.writer.proofs.payloads.put_levels.Statement.{statement}
+use Rattle.writer.proofs.payloads.put_levels.Tie as tie
+use Rattle.writer.proofs.payloads.put_levels.Reads as reads
+use Rattle.writer.proofs.payloads.put_levels.Lts as lts
+use Rattle.writer.proofs.fields.put_frame.Reads as put-frame-reads
+use Rattle.writer.proofs.fields.put_header.Reads as put-header-reads
+use Rattle.writer.proofs.rows.put_rows.Reads as put-rows-reads
+
+-- src/payloads.rt:30:9
+put-header-requires : tie.Need-put-header-requires
+put-header-requires c κs = search needs
+
+-- src/payloads.rt:32:9
+put-frame-requires : tie.Need-put-frame-requires
+put-frame-requires c κs = search needs
+
+-- src/payloads.rt:38:5
+put-rows-requires : tie.Need-put-rows-requires
+put-rows-requires c κs = search needs
+
+-- src/payloads.rt:18:1
+same-length : tie.Need-same-length
+same-length c = search needs
+
+-- src/payloads.rt:18:1
+returns : tie.Need-returns
+returns c = ?
+
+pub put-levels-spec : {M : Type 1} → statement M
+put-levels-spec =
+    tie.close
+    (tie.spec put-header-requires put-frame-requires put-rows-requires same-length returns)
