@@ -1,0 +1,1 @@
+// Soundness of the stereo state: laws alone.
