@@ -1,3 +1,6 @@
+use Rattle.writer.proofs.WroteLaws.{wrote-then, wrote-as, room-after}
+use Rattle.writer.specs.Spelling.{spellingIn, spelling}
+use native.Mathlib.Omega.{arith}
 use borrow.Author.Needs.{needs}
 use Rattle.writer.proofs.payloads.put_contents.Statement.{statement}
 use Rattle.writer.proofs.payloads.put_contents.Tie as tie
@@ -27,7 +30,8 @@ phase-records-requires c κs = search needs
 
 -- src/payloads.rt:64:5
 put-extension-requires : tie.Need-put-extension-requires
-put-extension-requires c κs = ?
+put-extension-requires c κs = let two = wrote-then {most = 5481} (c .before .before .before .before .before .before .before .before .before .before .before .before .put-levels .ensures) (c .before .before .before .before .before .put-rows .ensures) (omega arith) in
+    (room-after two (c .before .before .before .before .before .before .before .before .before .before .before .before .before .before .before .before .before .before .before .before .pre .0) (omega arith), c .before .before .before .before .before .before .before .before .before .before .before .before .before .before .before .before .before .before .before .before .pre .1)
 
 -- src/payloads.rt:42:1
 same-length : tie.Need-same-length
@@ -35,7 +39,9 @@ same-length c = search needs
 
 -- src/payloads.rt:42:1
 returns : tie.Need-returns
-returns c = ?
+unfolding spelling spellingIn
+returns c = let two = wrote-then {most = 5481} (c .before .before .before .before .before .before .before .before .before .before .before .before .before .before .before .put-levels .ensures) (c .before .before .before .before .before .before .before .before .put-rows .ensures) (omega arith) in
+    wrote-as (wrote-then two (c .before .before .put-extension .ensures) (omega arith)) (rw (c .before .before .before .before .before .before .before .before .before .before .before .before .before .before .before .before .before .setup-after .ensures, c .before .before .before .before .before .phase-records .ensures))
 
 pub put-contents-spec : {M : Type 1} → statement M
 put-contents-spec =

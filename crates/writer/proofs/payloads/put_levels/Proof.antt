@@ -1,3 +1,5 @@
+use Rattle.writer.proofs.WroteLaws.{wrote-then}
+use native.Mathlib.Omega.{arith}
 use borrow.Author.Needs.{needs}
 use Rattle.writer.proofs.payloads.put_levels.Statement.{statement}
 use Rattle.writer.proofs.payloads.put_levels.Tie as tie
@@ -25,7 +27,8 @@ same-length c = search needs
 
 -- src/payloads.rt:18:1
 returns : tie.Need-returns
-returns c = ?
+returns c = let two = wrote-then {most = 33} (c .before .before .before .before .before .before .before .before .before .before .before .before .before .put-header .ensures) (c .before .before .before .before .before .before .before .before .put-frame .ensures) (omega arith) in
+    wrote-then two (c .before .before .put-rows .ensures) (omega arith)
 
 pub put-levels-spec : {M : Type 1} → statement M
 put-levels-spec =
