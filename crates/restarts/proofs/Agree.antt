@@ -4,7 +4,7 @@ use Prim.Native.Nat.{ℕ, zero, suc, _+_}
 use mathlib.Core.Path.{_≡_, refl, sym, _∙_, ap, subst}
 use mathlib.Core.List.{List, [], _∷_, _++_}
 use mathlib.Core.Bool.{Bool, true, false}
-use Rattle.bits.specs.Reader.{Reader, Answer, got, give, _>>=_, pick}
+use Rattle.bits.specs.Reader.{Reader, got, give, _>>=_, pick}
 use Rattle.bits.specs.Loop.{counted, more, listed}
 use Rattle.bits.specs.Inside.{renumbered, inside}
 use Rattle.bits.proofs.Lawful.{split}

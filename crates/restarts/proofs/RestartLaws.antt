@@ -2,16 +2,15 @@
 -- Assumes nothing.
 use Prim.Native.Nat.{ℕ, _+_, _*_, _≤_}
 use mathlib.Core.Path.{_≡_, refl, sym, _∙_, ap, subst}
-use mathlib.Core.List.{List, [], _∷_, _++_}
+use mathlib.Core.List.{List, [], _∷_}
 use mathlib.Core.Bool.{Bool, true, false, not, _||_, _&&_}
 use native.Mathlib.Omega.{arith}
-use lib.Dec.{eqb, leb}
+use lib.Dec.{eqb}
 use lib.ListN.{length, getD, replicate}
 use lib.IntN.{ℤ}
 use borrow.Author.Tests.{eqb-true, leb-true, ne-eqb}
-use Rattle.bits.specs.Reader.{Reader, got, give, _>>=_, pick, expecting}
+use Rattle.bits.specs.Reader.{got, give, _>>=_, pick, expecting}
 use Rattle.bits.specs.Field.{field, zeroBit}
-use Rattle.bits.specs.Loop.{listed}
 use Rattle.bits.specs.Inside.{leftOver}
 use Rattle.bits.specs.Payload.{whole}
 use Rattle.bits.proofs.Bools.{and-both}
@@ -25,7 +24,7 @@ use Rattle.differences.specs.declared.Held.{Held}
 use Rattle.differences.specs.declared.Row.{Row}
 use Rattle.stereo.specs.Header.{header, setupAfter}
 use Rattle.stereo.specs.Frame.{frame}
-use Rattle.stereo.specs.Extension.{noPhases, ipds, opds, phasesIn, phasesNext, phasesOf, phases, phaseFlag, v0, another, part, announced, escCount, extensionSent, extension}
+use Rattle.stereo.specs.Extension.{noPhases, phasesIn, phasesNext, phasesOf, phases, phaseFlag, v0, another, part, announced, escCount, extensionSent, extension}
 use Rattle.stereo.specs.Payload.{envelopes, payload}
 use Rattle.stereo.specs.Carried.{recordAfter, phaseRecords, carriedIn, carried}
 use Rattle.stereo.specs.Stereo.{across, phasesAcross, restart}

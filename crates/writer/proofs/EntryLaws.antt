@@ -1,12 +1,12 @@
 -- The code's own step from one index to another, in sixteen bits.
 -- Assumes nothing.
-use Prim.Native.Nat.{ℕ, _≤_, _<_, _^_}
-use mathlib.Core.Path.{_≡_, sym, _∙_}
+use Prim.Native.Nat.{ℕ, _≤_}
+use mathlib.Core.Path.{_≡_}
 use native.Mathlib.Omega.{arith}
 use lib.IntN.{ℤ, pos, negℤ, _+ℤ_, _-ℤ_, natAbs}
 use mir.Syntax.{w8, w16}
 use mir.Val.{SFits, toZ, ofZ}
-use Rattle.bits.proofs.Signed.{fits, abs-add, abs-neg, thru}
+use Rattle.bits.proofs.Signed.{fits, abs-add, abs-neg}
 use Rattle.differences.specs.Difference.{middle}
 use Rattle.differences.specs.declared.Kind.{Kind}
 use Rattle.differences.proofs.KindLaws.{byte-abs, wide-is, through, middle-le}

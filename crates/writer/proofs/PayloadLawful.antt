@@ -5,7 +5,7 @@ use mathlib.Core.List.{List}
 use mathlib.Core.Bool.{Bool}
 use lib.Dec.{eqb}
 use lib.IntN.{ℤ}
-use Rattle.bits.specs.Reader.{give, pick}
+use Rattle.bits.specs.Reader.{pick}
 use Rattle.bits.specs.Field.{field}
 use Rattle.bits.specs.Inside.{leftOver}
 use Rattle.bits.specs.Places.{here, refuseAt}
@@ -22,13 +22,12 @@ use Rattle.differences.specs.declared.Kind.{Kind}
 use Rattle.differences.specs.declared.Held.{Held}
 use Rattle.stereo.specs.Header.{mode, headerFields, header}
 use Rattle.stereo.specs.Frame.{bordersOf, borders, frame}
-use Rattle.stereo.specs.Extension.{phasesIn, phasesNext, phasesOf, phases, phaseFlag, v0, another, part, announced, escCount, extensionSent, extension}
+use Rattle.stereo.specs.Extension.{phasesIn, phasesOf, phases, phaseFlag, v0, another, part, announced, escCount, extensionSent, extension}
 use Rattle.stereo.specs.Payload.{envelopes, payload}
 use Rattle.stereo.specs.declared.Setup.{Setup}
 use Rattle.stereo.specs.declared.State.{State}
 use Rattle.stereo.specs.declared.Header.{Header}
 use Rattle.stereo.specs.declared.Frame.{Frame}
-use Rattle.stereo.specs.declared.Phases.{Phases}
 
 ruleset lawfuls = (bind-lawful, field-lawful, zeroBit-lawful, give-lawful, expecting-lawful, pick-lawful, listed-lawful)
 

@@ -1,12 +1,11 @@
 -- Which numbers a payload's reading refuses with: 10, 13, 31, 32, 33, 34; and a whole payload 12 besides.
 -- Assumes nothing.
-use Prim.Native.Nat.{ℕ, suc, _+_, _*_, _<_}
+use Prim.Native.Nat.{ℕ, _+_, _*_, _<_}
 use mathlib.Core.Path.{_≡_, refl}
 use mathlib.Core.List.{List}
 use mathlib.Core.Bool.{Bool, true, false, _||_}
 use native.Mathlib.Omega.{arith}
 use lib.Dec.{eqb}
-use lib.IntN.{ℤ}
 use Rattle.bits.specs.Reader.{refused, Reader, give, _>>=_, pick, expecting}
 use Rattle.bits.specs.Field.{field, zeroBit}
 use Rattle.bits.specs.Loop.{listed}
@@ -15,7 +14,7 @@ use Rattle.bits.specs.Places.{here, refuseAt}
 use Rattle.bits.specs.Payload.{whole}
 use Rattle.bits.proofs.Numbered.{Numbered, give-numbered, here-numbered, refusing-numbered, field-numbered, zeroBit-numbered, bind-numbered, expecting-numbered, pick-numbered, listed-numbered, leftOver-numbered, inside-numbered, whole-numbered}
 use Rattle.words.proofs.WordNumbered.{word-numbered}
-use Rattle.tables.specs.Tables.{codesOf, lensOf, wordOf}
+use Rattle.tables.specs.Tables.{codesOf, lensOf}
 use Rattle.tables.specs.Names.{tableAt}
 use Rattle.tables.proofs.Rules.{ruled-at}
 use Rattle.differences.specs.Difference.{firstTable, differenceTable, difference}
@@ -27,7 +26,7 @@ use Rattle.differences.specs.declared.Kind.the-variants.{Iid, Icc, Ipd, Opd}
 use Rattle.differences.specs.declared.Held.{Held}
 use Rattle.stereo.specs.Header.{mode, headerFields, header}
 use Rattle.stereo.specs.Frame.{bordersOf, borders, frame}
-use Rattle.stereo.specs.Extension.{phasesIn, phasesNext, phasesOf, phases, phaseFlag, v0, another, part, announced, escCount, extensionSent, extension}
+use Rattle.stereo.specs.Extension.{phasesIn, phasesOf, phases, phaseFlag, v0, another, part, announced, escCount, extensionSent, extension}
 use Rattle.stereo.specs.Payload.{envelopes, payload}
 use Rattle.stereo.specs.declared.Setup.{Setup}
 use Rattle.stereo.specs.declared.State.{State}

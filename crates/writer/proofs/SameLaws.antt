@@ -4,19 +4,10 @@ use Prim.Native.Nat.{ℕ}
 use mathlib.Core.Path.{_≡_, refl, ap, ap₂}
 use mathlib.Core.List.{List, [], _∷_}
 use mathlib.Core.Bool.{Bool, true, false, _&&_}
-use native.Mathlib.Omega.{arith}
 use lib.Dec.{eqb}
 use lib.IntN.{ℤ, pos, negsuc}
 use borrow.Author.Tests.{eqb-true, eq-eqb}
 use Rattle.bits.proofs.Bools.{and-both, true-false}
-use Rattle.differences.specs.declared.Row.{Row}
-use Rattle.stereo.specs.declared.Header.{Header}
-use Rattle.stereo.specs.declared.Frame.{Frame}
-use Rattle.stereo.specs.declared.Phases.{Phases}
-use Rattle.stereo.specs.declared.Body.{Body}
-use Rattle.stereo.specs.declared.Part.{Part}
-use Rattle.stereo.specs.declared.Extension.{Extension}
-use Rattle.stereo.specs.declared.Contents.{Contents}
 use Rattle.writer.specs.Same.{sameList, sameIndex, sameRow, samePhases, sameBody, samePart, sameExtension, sameHeader, sameFrame, sameContents}
 
 -- a test of sameness that is right

@@ -1,51 +1,46 @@
 -- Read, then spelled: the bits of a payload that was read are the spelling of its contents.
 -- Assumes nothing.
-use Prim.Native.Nat.{ℕ, zero, suc, _+_, _*_, _-_, _%_, _<_, _≤_, _^_, min}
-use mathlib.Core.Path.{_≡_, refl, sym, _∙_, ap, subst}
-use mathlib.Core.List.{List, [], _∷_, _++_, append-assoc}
-use mathlib.Core.Bool.{Bool, true, false, _||_}
+use Prim.Native.Nat.{ℕ, zero, suc, _+_, _*_, _-_, _%_, _<_, min}
+use mathlib.Core.Path.{_≡_, refl, _∙_, ap}
+use mathlib.Core.List.{List, [], _++_, append-assoc}
+use mathlib.Core.Bool.{Bool, true, false}
 use native.Mathlib.Omega.{arith}
 use lib.Dec.{eqb, leb}
-use lib.ListN.{length, getD, take, replicate, length-replicate}
+use lib.ListN.{length, take, replicate}
 use lib.Seq.{take-at}
 use lib.IntN.{ℤ, pos, natAbs, _+ℤ_, _-ℤ_, +ℤ-comm, +ℤ-negℤ-cancel, -ℤ-+ℤ-cancel}
-use borrow.Author.Tests.{eqb-true, leb-true}
+use borrow.Author.Tests.{eqb-true}
 use Rattle.bits.specs.Reader.{Reader, give, _>>=_, pick, expecting}
 use Rattle.bits.specs.Field.{field, zeroBit}
 use Rattle.bits.specs.Loop.{listed}
-use Rattle.bits.specs.Inside.{Fill, inside, leftOver}
-use Rattle.bits.specs.Pieces.{Piece, piece, total}
+use Rattle.bits.specs.Inside.{inside}
+use Rattle.bits.specs.Pieces.{Piece}
 use Rattle.bits.proofs.Bools.{true-false}
 use Rattle.bits.proofs.Spelt.{Spelt, told, respelt, give-spelt, bind-spelt, field-spelt, expecting-spelt, pick-spelt, listed-spelt, here-spelt, refuseAt-spelt, leftOver-spelt, inside-spelt, Filled}
 use Rattle.bits.specs.Spelled.{spellEach, spellFill}
-use Rattle.tables.specs.Tables.{codesOf, spellWord}
+use Rattle.tables.specs.Tables.{codesOf}
 use Rattle.tables.specs.Names.{tableAt}
 use Rattle.tables.specs.Words.{allCodes}
 use Rattle.tables.proofs.Rules.{spelt-at}
-use Rattle.differences.specs.Kind.{isPhase, fine, bands, inRange}
+use Rattle.differences.specs.Kind.{isPhase, bands}
 use Rattle.differences.specs.Difference.{firstTable, differenceTable, difference, middle, added}
 use Rattle.differences.specs.Indices.{padded, reference, indexFrom, index, indices}
-use Rattle.differences.specs.Held.{zeros}
-use Rattle.differences.specs.Rows.{noRow, noRows, heldAfter, allowed, row, rowsOf, rows}
+use Rattle.differences.specs.Rows.{noRow, heldAfter, row, rowsOf, rows}
 use Rattle.differences.specs.declared.Kind.{Kind}
 use Rattle.differences.specs.declared.Kind.the-variants.{Iid, Icc, Ipd, Opd}
 use Rattle.differences.specs.declared.Held.{Held}
-use Rattle.differences.specs.declared.Row.{Row}
 use Rattle.stereo.specs.Header.{noHeader, mode, headerFields, header, setupAfter}
 use Rattle.stereo.specs.Frame.{envelopeCount, noBorders, bordersOf, borders, frame}
-use Rattle.stereo.specs.Extension.{noPhases, noBody, noPart, noExtension, ipds, opds, phasesIn, phasesNext, phasesOf, phases, hasMode, phaseFlag, v0, another, part, announced, escCount, extensionSent, extension}
+use Rattle.stereo.specs.Extension.{noPhases, noPart, ipds, opds, phasesIn, phasesNext, phasesOf, phases, phaseFlag, v0, another, part, announced, escCount, extensionSent, extension}
 use Rattle.stereo.specs.Payload.{envelopes, payload}
 use Rattle.stereo.specs.declared.Setup.{Setup}
 use Rattle.stereo.specs.declared.State.{State}
 use Rattle.stereo.specs.declared.Header.{Header}
 use Rattle.stereo.specs.declared.Frame.{Frame}
 use Rattle.stereo.specs.declared.Phases.{Phases}
-use Rattle.stereo.specs.declared.Body.{Body}
-use Rattle.stereo.specs.declared.Part.{Part}
-use Rattle.stereo.specs.declared.Extension.{Extension}
 use Rattle.stereo.specs.declared.Contents.{Contents}
 use Rattle.writer.proofs.PayloadLawful.{part-filling}
-use Rattle.writer.specs.Spelling.{bitField, spellMode, spellFields, spellHeader, countIndex, spellBorder, spellBorders, spellFrame, entryTo, spellIndex, spellRow, spellNext, spellRows, spellPhases, spellAllPhases, spellBody, spellPart, spellAnnounced, spellSent, spellExtension, spellingIn, spelling}
+use Rattle.writer.specs.Spelling.{bitField, spellMode, spellFields, spellHeader, countIndex, spellBorder, spellBorders, spellFrame, entryTo, spellIndex, spellRow, spellRows, spellPhases, spellAllPhases, spellBody, spellPart, spellAnnounced, spellSent, spellExtension, spellingIn, spelling}
 
 -- nothing more is known
 abbrev Any : {A : Type 0} → A → Type 0

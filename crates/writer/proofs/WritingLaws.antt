@@ -1,14 +1,14 @@
 -- The round trips: what is written is read to the same contents, count and state; what was read is written back to the bits that it used. And 40
 -- is given exactly where no payload has the contents.
 -- Assumes nothing.
-use Prim.Native.Nat.{ℕ, _+_, _*_, _-_, _<_, _≤_}
-use mathlib.Core.Path.{_≡_, refl, sym, _∙_, ap, subst}
-use mathlib.Core.List.{List, []}
+use Prim.Native.Nat.{ℕ, _*_, _-_, _<_, _≤_}
+use mathlib.Core.Path.{_≡_, refl, ap, subst}
+use mathlib.Core.List.{List}
 use mathlib.Core.Bool.{Bool, true, false, _||_}
 use native.Mathlib.Omega.{arith}
-use lib.Dec.{eqb, leb}
+use lib.Dec.{leb}
 use lib.ListN.{length, replicate}
-use borrow.Author.Tests.{le-leb, leb-true}
+use borrow.Author.Tests.{le-leb}
 use Rattle.bits.specs.Bits.{bitAt}
 use Rattle.bits.specs.Reader.{Answer, got, refused, pick}
 use Rattle.bits.specs.Payload.{whole}
@@ -29,7 +29,7 @@ use Rattle.stereo.specs.declared.Reading.{Reading}
 use Rattle.writer.specs.declared.Written.{Written}
 use Rattle.writer.specs.Spelling.{spelling}
 use Rattle.writer.specs.Same.{sameContents}
-use Rattle.writer.specs.Writing.{canWrite, unwritten, written, writing}
+use Rattle.writer.specs.Writing.{canWrite, unwritten, writing}
 use Rattle.writer.proofs.PayloadLawful.{payload-lawful}
 use Rattle.writer.proofs.PayloadNumbers.{own, whole-own}
 use Rattle.writer.proofs.SpellingLaws.{payload-spelt}

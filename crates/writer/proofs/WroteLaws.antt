@@ -4,10 +4,9 @@ use Prim.Native.Nat.{ℕ, zero, suc, _+_, _≤_, _<_}
 use mathlib.Core.Path.{_≡_, refl, sym, _∙_, ap, subst}
 use mathlib.Core.List.{List, [], _∷_, _++_, append-assoc}
 use native.Mathlib.Omega.{arith}
-use native.Mathlib.Nat.{add-zero}
 use lib.ListN.{length, take, getD}
 use Rattle.bits.specs.Spelled.{spellEach}
-use Rattle.bits.specs.Pieces.{Piece, piece, total}
+use Rattle.bits.specs.Pieces.{Piece, piece}
 use Rattle.bits.specs.Packed.{put, putAll}
 use Rattle.bits.proofs.Spelt.{total-append, append-nil}
 use Rattle.bits.proofs.PutLaws.{put-all-length, put-all-more}

@@ -3,7 +3,7 @@ use Prim.Native.Nat.{ℕ}
 use mathlib.Core.List.{List, _++_}
 use mathlib.Core.Bool.{Bool, _||_}
 use lib.Dec.{eqb, leb}
-use lib.ListN.{length, drop}
+use lib.ListN.{drop}
 use Rattle.bits.specs.Reader.{pick}
 use Rattle.bits.specs.Pieces.{total}
 use Rattle.bits.specs.Packed.{bytesFor, packed}

@@ -1,5 +1,5 @@
 // The extension, put into the scratch array.
-ghost use Prim.Native.Nat.{_≤_, _+_, min};
+ghost use Prim.Native.Nat.{_+_, min};
 ghost use mathlib.Core.List.{[], _++_};
 ghost use lib.Dec.{eqb};
 ghost use Rattle.bits.specs.Reader.{pick};

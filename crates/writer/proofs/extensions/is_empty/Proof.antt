@@ -1,9 +1,7 @@
 use native.Mathlib.Nat.{zero-add}
 use Prim.Native.Nat.{_+_}
-use borrow.Author.Tests.{eq-eqb, ne-eqb}
+use borrow.Author.Tests.{ne-eqb}
 use native.Mathlib.Omega.{arith}
-use mathlib.Core.Path.{ap}
-use lib.Dec.{eqb}
 use Rattle.writer.proofs.extensions.is_empty.Statement.{statement}
 use Rattle.writer.proofs.extensions.is_empty.Tie as tie
 use Rattle.writer.proofs.extensions.is_empty.Reads as reads

@@ -1,17 +1,16 @@
 use Rattle.writer.proofs.WroteLaws.{wrote-none, wrote-nothing, wrote-then, wrote-as, wrote-most, wrote-length, room-after, each-more, taken-whole, ipd-more, opd-more}
 use Rattle.writer.specs.Spelling.{spellPhases, spellAllPhases}
-use Rattle.writer.specs.Wrote.{Wrote, Room}
+use Rattle.writer.specs.Wrote.{Wrote}
 use Rattle.stereo.specs.Extension.{ipds, opds}
 use Rattle.differences.specs.Rows.{heldAfter}
 use Rattle.bits.specs.Spelled.{spellEach}
-use Rattle.bits.specs.Pieces.{Piece}
-use lib.ListN.{take, getD, length}
+use lib.ListN.{take, length}
 use borrow.Author.Tests.{eq-eqb, ne-eqb}
 use borrow.Author.Needs.{needs}
 use native.Mathlib.Omega.{arith}
-use mathlib.Core.List.{List, []}
-use mathlib.Core.Path.{_≡_, refl, sym, _∙_, ap}
-use Prim.Native.Nat.{ℕ, _+_, _-_, _*_, _≤_, _<_}
+use mathlib.Core.List.{[]}
+use mathlib.Core.Path.{_≡_, refl}
+use Prim.Native.Nat.{_-_, _*_, _≤_}
 use Rattle.writer.proofs.extensions.put_all_phases.Statement.{statement}
 use Rattle.writer.proofs.extensions.put_all_phases.Tie as tie
 use Rattle.writer.proofs.extensions.put_all_phases.Reads as reads

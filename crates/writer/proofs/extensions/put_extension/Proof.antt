@@ -1,4 +1,4 @@
-use Rattle.writer.proofs.WroteLaws.{wrote-nothing, wrote-then, wrote-as, wrote-most}
+use Rattle.writer.proofs.WroteLaws.{wrote-nothing, wrote-then, wrote-as}
 use Rattle.writer.specs.Spelling.{spellExtension, spellSent, spellAnnounced}
 use borrow.Author.Tests.{not-true, not-false}
 use native.Mathlib.Omega.{arith}

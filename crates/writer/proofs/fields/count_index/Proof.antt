@@ -1,6 +1,5 @@
 use Rattle.writer.specs.Spelling.{countIndex}
 use borrow.Author.Tests.{eq-eqb, ne-eqb}
-use native.Mathlib.Omega.{arith}
 use borrow.Author.Needs.{needs}
 use Rattle.writer.proofs.fields.count_index.Statement.{statement}
 use Rattle.writer.proofs.fields.count_index.Tie as tie

@@ -1,15 +1,14 @@
 use lib.Seq.{getD-take, length-take-le}
-use Prim.Native.Nat.{_-_, _<_}
-use Rattle.writer.specs.Spelling.{entryTo}
+use Prim.Native.Nat.{_-_}
 use Rattle.differences.specs.Indices.{reference}
 use mir.ValLaws.{toZ-ofZ}
 use mir.Val.{SFits}
 use mir.Syntax.{w8}
-use lib.IntN.{ℤ, pos}
+use lib.IntN.{pos}
 use lib.ListN.{take, getD, length}
 use borrow.Author.Tests.{eq-eqb, ne-eqb}
 use native.Mathlib.Omega.{arith}
-use mathlib.Core.Path.{_≡_, sym, _∙_, ap}
+use mathlib.Core.Path.{_≡_, _∙_}
 use borrow.Author.Needs.{needs}
 use Rattle.writer.proofs.rows.entry_at.Statement.{statement}
 use Rattle.writer.proofs.rows.entry_at.Tie as tie

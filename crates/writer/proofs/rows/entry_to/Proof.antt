@@ -6,7 +6,6 @@ use Rattle.differences.proofs.KindLaws.{wide-fits, neg-parts, not-neg}
 use Rattle.bits.proofs.Signed.{fits, thru}
 use lib.IntN.{pos, _-ℤ_, natAbs}
 use native.Mathlib.Omega.{arith}
-use mathlib.Core.Path.{_≡_, sym, _∙_, ap}
 use Prim.Native.Nat.{_≤_}
 use borrow.Author.Needs.{needs}
 use Rattle.writer.proofs.rows.entry_to.Statement.{statement}

@@ -1,20 +1,16 @@
 use Rattle.writer.proofs.WroteLaws.{wrote-length}
 use Rattle.writer.proofs.WroteLaws.{wrote-none, wrote-then, wrote-as, wrote-most, room-after, each-more}
-use Rattle.writer.specs.Spelling.{entryTo, spellIndex}
-use Rattle.writer.specs.Wrote.{Wrote, Room}
-use Rattle.differences.specs.Indices.{reference}
+use Rattle.writer.specs.Spelling.{spellIndex}
+use Rattle.writer.specs.Wrote.{Wrote}
 use Rattle.differences.specs.Kind.{bands}
-use Rattle.tables.specs.Tables.{spellWord}
-use Rattle.tables.specs.Names.{tableAt}
 use Rattle.bits.specs.Spelled.{spellEach}
-use Rattle.bits.specs.Pieces.{Piece}
-use lib.IntN.{ℤ, pos}
-use lib.ListN.{take, getD, length}
+use lib.IntN.{pos}
+use lib.ListN.{take, length}
 use borrow.Author.Needs.{needs}
 use native.Mathlib.Omega.{arith}
-use mathlib.Core.List.{List, []}
-use mathlib.Core.Path.{_≡_, sym, _∙_, ap}
-use Prim.Native.Nat.{ℕ, _+_, _-_, _*_, _≤_, _<_}
+use mathlib.Core.List.{[]}
+use mathlib.Core.Path.{_≡_}
+use Prim.Native.Nat.{_-_, _*_, _≤_}
 use Rattle.writer.proofs.rows.put_indices.Statement.{statement}
 use Rattle.writer.proofs.rows.put_indices.Tie as tie
 use Rattle.writer.proofs.rows.put_indices.Reads as reads

@@ -1,4 +1,3 @@
-use native.Mathlib.Omega.{arith}
 use Rattle.writer.proofs.WroteLaws.{wrote-as, wrote-most}
 use borrow.Author.Needs.{needs}
 use Rattle.writer.proofs.rows.put_word.Statement.{statement}

@@ -4,7 +4,7 @@ use Rattle.writer.specs.Same.{samePhases}
 use borrow.Author.Tests.{not-true, not-false}
 use borrow.Author.Needs.{needs}
 use native.Mathlib.Omega.{arith}
-use mathlib.Core.Path.{_≡_, sym, _∙_, ap}
+use mathlib.Core.Path.{sym, _∙_}
 use Prim.Native.Nat.{_-_}
 use Rattle.writer.proofs.same.same_all_phases.Statement.{statement}
 use Rattle.writer.proofs.same.same_all_phases.Tie as tie

@@ -1,6 +1,6 @@
 use Rattle.writer.specs.Same.{sameBody}
 use borrow.Author.Tests.{eq-eqb, ne-eqb}
-use mathlib.Core.Path.{_≡_, sym, _∙_, ap}
+use mathlib.Core.Path.{_∙_}
 use borrow.Author.Needs.{needs}
 use Rattle.writer.proofs.same.same_body.Statement.{statement}
 use Rattle.writer.proofs.same.same_body.Tie as tie

@@ -1,6 +1,6 @@
 use Rattle.writer.specs.Same.{sameContents}
 use borrow.Author.Tests.{not-true, not-false}
-use mathlib.Core.Path.{_≡_, sym, _∙_, ap}
+use mathlib.Core.Path.{_∙_}
 use borrow.Author.Needs.{needs}
 use Rattle.writer.proofs.same.same_contents.Statement.{statement}
 use Rattle.writer.proofs.same.same_contents.Tie as tie

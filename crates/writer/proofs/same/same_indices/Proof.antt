@@ -2,10 +2,9 @@ use Rattle.writer.proofs.ListSame.{index-same, index-differs}
 use mir.ValLaws.{toZ-ofZ}
 use mir.Val.{SFits, toZ, ofZ}
 use mir.Syntax.{w8}
-use lib.IntN.{ℤ, pos}
+use lib.IntN.{pos}
 use lib.ListN.{getD}
-use mathlib.Core.Bool.{true}
-use mathlib.Core.Path.{_≡_, sym, _∙_, ap}
+use mathlib.Core.Path.{sym, _∙_, ap}
 use Rattle.writer.proofs.ListSame.{SoFar, same-start, same-more, same-stop, same-done}
 use Rattle.writer.specs.Same.{sameIndex}
 use borrow.Author.Needs.{needs}

@@ -1,5 +1,5 @@
 use borrow.Author.Tests.{not-true, not-false}
-use mathlib.Core.Path.{_≡_, sym, _∙_, ap}
+use mathlib.Core.Path.{_∙_}
 use borrow.Author.Needs.{needs}
 use Rattle.writer.proofs.same.same_kinds.Statement.{statement}
 use Rattle.writer.proofs.same.same_kinds.Tie as tie

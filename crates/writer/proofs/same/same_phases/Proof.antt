@@ -1,6 +1,6 @@
 use Rattle.writer.specs.Same.{samePhases}
 use borrow.Author.Tests.{not-true, not-false}
-use mathlib.Core.Path.{_≡_, sym, _∙_, ap}
+use mathlib.Core.Path.{_∙_}
 use borrow.Author.Needs.{needs}
 use Rattle.writer.proofs.same.same_phases.Statement.{statement}
 use Rattle.writer.proofs.same.same_phases.Tie as tie

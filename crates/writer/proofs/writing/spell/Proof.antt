@@ -7,7 +7,7 @@ use lib.ListN.{length, length-replicate}
 use Prim.Native.Nat.{ℕ, _≤_}
 use native.Mathlib.Omega.{arith}
 use mathlib.Core.List.{List}
-use mathlib.Core.Path.{_≡_, sym, _∙_, ap}
+use mathlib.Core.Path.{_≡_, _∙_, ap}
 use borrow.Author.Needs.{needs}
 use Rattle.writer.proofs.writing.spell.Statement.{statement}
 use Rattle.writer.proofs.writing.spell.Tie as tie

@@ -1,0 +1,57 @@
+-- The three demands as theorems, each by what is proved of the parts.
+-- Assumes nothing.
+use Prim.Native.Nat.{ℕ, _+_, _*_, _<_, _≤_}
+use mathlib.Core.Path.{_≡_}
+use mathlib.Core.Logic.{_≢_}
+use mathlib.Core.List.{List, [], _∷_, _++_}
+use mathlib.Core.Bool.{true}
+use lib.ListN.{length, take}
+use Rattle.bits.specs.Bits.{bitAt}
+use Rattle.bits.specs.Reader.{got}
+use Rattle.bits.specs.Payload.{inBuffer, range, whole}
+use Rattle.bits.specs.Packed.{bytesFor, packed}
+use Rattle.stereo.specs.State.{sound, lost}
+use Rattle.stereo.specs.Payload.{payload}
+use Rattle.stereo.specs.Stereo.{from, refusal, readBytes, readFrom}
+use Rattle.stereo.specs.declared.State.{State}
+use Rattle.stereo.specs.declared.Contents.{Contents}
+use Rattle.stereo.proofs.StereoLaws.{outside-counts-not, read-cut}
+use Rattle.writer.specs.Spelling.{spelling}
+use Rattle.writer.specs.Writing.{writing}
+use Rattle.writer.proofs.WritingLaws.{write-read, read-write}
+use Rattle.runs.specs.Machine.{Event, payload as given, run, after, turn}
+use Rattle.runs.specs.Damage.{Restarting, NoRestart, AllLost, Silent}
+use Rattle.runs.proofs.Demand.{restored, nothing-between}
+use Rattle.promises.specs.Run.{stereo}
+use Rattle.promises.proofs.Turns.{steady}
+
+-- demand 1, of a stereo payload: no bit outside counts, and no cut goes unseen
+pub outside : (st : State) (b b′ : List ℕ) (start end start′ end′ : ℕ) → inBuffer start end (length b) ≡ true → inBuffer start′ end′ (length b′) ≡ true
+    → range b start end ≡ range b′ start′ end′ → readFrom st b start end ≡ readFrom st b′ start′ end′
+outside = outside-counts-not
+
+pub cut : (st : State) (s : List ℕ) (next : ℕ) (c : Contents) (k : ℕ) → whole (payload (from st)) s ≡ got c next → 8 * k < next
+    → readBytes st (take k s) ≡ refusal 10 (lost st)
+cut = read-cut
+
+-- demand 2: what is written reads back the same, and what was read is written back to its bits
+pub written-reads : (st : State) (c : Contents) (room : ℕ) → writing st c room .number ≡ 0
+    → readBytes st (packed (spelling (from st) c)) ≡ record { number = 0; bits = writing st c room .bits; contents = c; state = writing st c room .state }
+written-reads = write-read
+
+pub read-writes : (st : State) (s : List ℕ) (room : ℕ) → sound st ≡ true → readBytes st s .number ≡ 0 → bytesFor (readBytes st s .bits) ≤ room
+    → (writing st (readBytes st s .contents) room ≡ record { number = 0; bits = readBytes st s .bits; state = readBytes st s .state })
+    × ((i : ℕ) → i < readBytes st s .bits → bitAt (packed (spelling (from st) (readBytes st s .contents))) i ≡ bitAt s i)
+read-writes = read-write
+
+-- demand 3: in place of a stretch of a run stand any other events; between it and the payload none is a restart; the payload is one
+module _ (before stretch spoilt between : List Event) (b : List ℕ) (start end : ℕ) (rest : List Event) where
+  pub in-step-again : Restarting stereo (turn stereo (after stereo (stereo .fresh) (before ++ stretch ++ between)) (given b start end))
+      → run stereo (after stereo (stereo .fresh) (before ++ spoilt ++ between)) (given b start end ∷ rest)
+      ≡ run stereo (after stereo (stereo .fresh) (before ++ stretch ++ between)) (given b start end ∷ rest)
+  in-step-again = restored stereo steady before stretch spoilt between b start end rest
+
+  pub silent-till-then : spoilt ≢ [] → AllLost (run stereo (after stereo (stereo .fresh) before) spoilt)
+      → NoRestart stereo (run stereo (after stereo (stereo .fresh) (before ++ stretch)) between)
+      → Silent (run stereo (after stereo (stereo .fresh) (before ++ spoilt)) between)
+  silent-till-then = nothing-between stereo steady before stretch spoilt between b start end rest

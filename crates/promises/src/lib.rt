@@ -1,0 +1,1 @@
+// The demands as theorems: definitions and laws alone.
