@@ -1,2 +1,4 @@
 pub mod Turns
 pub mod Demands
+pub mod Unique
+pub mod Bench
