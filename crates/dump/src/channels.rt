@@ -1,0 +1,54 @@
+// What a channel stream holds.
+ghost use Prim.Native.Nat.{_≤_};
+ghost use lib.ListN.{length};
+use channel::Reading;
+use listing::rows;
+
+// How many books and scale factors there are: so many bands in each group.
+fn places(groups: u8, bands: u8) -> usize {
+    let mut n = 0usize;
+    let mut g = 0u8;
+    while g < groups {
+        n += bands as usize;
+        g += 1;
+    }
+    n
+}
+
+// The numbers of a channel stream that was read.
+fn dump_numbers(r: Reading, lines: &[i16], factors: &[u8], books: &[u8]) {
+    let groups = r.groups;
+    let n = places(r.group_count, r.max_sfb);
+    rows::say_window(
+        r.sequence as u32,
+        r.shape as u32,
+        r.max_sfb as u32,
+        &groups,
+        r.group_count as usize,
+    );
+    rows::say_numbers(b"  books", books, n);
+    rows::say_numbers(b"  factors", factors, n);
+    rows::say_values(lines);
+}
+
+// A channel stream that was read: its line and its numbers.
+fn dump_read(k: usize, r: Reading, lines: &[i16], factors: &[u8], books: &[u8]) {
+    listing::say_channel(k, r.gain, lines, r.bits);
+    dump_numbers(r, lines, factors, books);
+}
+
+// A channel payload.
+pub fn dump_channel(k: usize, bytes: &[u8], index: u8)
+    requires { ⌜ length (now bytes) ≤ 65535 ⌝ }
+{
+    let mut lines = [0i16; 1024];
+    let mut factors = [0u8; 120];
+    let mut books = [0u8; 120];
+    let end = bytes.len() as u32;
+    let r = channel::read_channel(bytes, 0, end, index, &mut lines, &mut factors, &mut books);
+    if r.number != 0 {
+        listing::say_refused(k, b"channel", r.number);
+        return;
+    }
+    dump_read(k, r, &lines, &factors, &books);
+}

@@ -1,0 +1,133 @@
+// What a stereo payload holds.
+ghost use Prim.Native.Nat.{_<_};
+use crate::records;
+use differences::Row;
+use listing::rows;
+use stereo::Contents;
+use stereo::Extension;
+use stereo::Frame;
+use stereo::Header;
+use stereo::State;
+use stereo::readings;
+
+// The header.
+fn dump_header(h: Header) {
+    if h.there == 1 {
+        rows::say_header(h.iid == 1, h.iidmode, h.icc == 1, h.iccmode, h.ext);
+        return;
+    }
+    rows::say_words(b"  header -");
+}
+
+// A border as a byte; it has 5 bits.
+fn small(border: u32) -> u8 {
+    if border < 256 {
+        return border as u8;
+    }
+    0
+}
+
+// The frame class and the borders, which are sent where they are variable.
+fn dump_frame(f: Frame) {
+    let bs = f.borders;
+    let borders = [small(bs[0]), small(bs[1]), small(bs[2]), small(bs[3])];
+    if f.class == 1 {
+        rows::say_class(f.class, &borders, f.envelopes);
+        return;
+    }
+    rows::say_class(f.class, &borders, 0);
+}
+
+// A row's indices.
+fn dump_row(words: &[u8], row: Row) {
+    let indices = row.indices;
+    rows::say_indices(words, &indices);
+}
+
+// The four rows of an envelope.
+fn dump_envelope(e: usize, state: State, contents: Contents)
+    requires { ⌜ e < 4 ⌝ }
+{
+    let setup = state.setup;
+    let extension = contents.extension;
+    let part = extension.part;
+    let body = part.body;
+    let phases = body.phases;
+    let p = phases[e];
+    let levels = contents.iid;
+    let coherences = contents.icc;
+    let a = levels[e];
+    let b = coherences[e];
+    let c = p.ipd;
+    let d = p.opd;
+    let phase = body.phase == 1;
+    rows::say_envelope(
+        e,
+        [setup.iid, setup.icc, phase, phase],
+        [a.time, b.time, c.time, d.time],
+    );
+    dump_row(b"  iid", a);
+    dump_row(b"  icc", b);
+    dump_row(b"  ipd", c);
+    dump_row(b"  opd", d);
+}
+
+// The size that an extension announces.
+fn announced(size: u32, esc: u32) -> u32 {
+    if 15 < size {
+        return 0;
+    }
+    if 255 < esc {
+        return 0;
+    }
+    size + esc
+}
+
+// The extension.
+fn dump_extension(x: Extension) {
+    if x.there != 1 {
+        rows::say_words(b"  extension -");
+        return;
+    }
+    let part = x.part;
+    let body = part.body;
+    let mut count = 0u32;
+    if part.count < 8 {
+        count = part.count as u32;
+    }
+    rows::say_extension(announced(x.size, x.esc), body.phase, part.value, count);
+}
+
+// The contents, with the state after them.
+fn dump_contents(contents: Contents, state: State) {
+    let header = contents.header;
+    dump_header(header);
+    let frame = contents.frame;
+    dump_frame(frame);
+    let mut e = 0;
+    while e < 4 {
+        if e < frame.envelopes {
+            dump_envelope(e, state, contents);
+        }
+        e += 1;
+    }
+    let extension = contents.extension;
+    dump_extension(extension);
+}
+
+// A stereo payload, its numbers and the state after it.
+pub fn dump_stereo(k: usize, state: State, bytes: &[u8]) -> State {
+    let r = readings::read(state, bytes, 0, bytes.len());
+    let next = r.state;
+    if r.number != 0 {
+        listing::say_refused(k, b"stereo", r.number);
+        records::dump_state(next);
+        return next;
+    }
+    let contents = r.contents;
+    let frame = contents.frame;
+    listing::say_stereo(k, frame.envelopes, r.bits);
+    dump_contents(contents, next);
+    records::dump_state(next);
+    next
+}

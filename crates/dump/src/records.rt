@@ -1,0 +1,42 @@
+// The stereo state after a payload.
+use differences::Held;
+use listing::rows;
+use stereo::State;
+
+// A flag as a number.
+pub fn bit(on: bool) -> u8 {
+    if on {
+        return 1;
+    }
+    0
+}
+
+// A kind's record; mode 7 is none.
+fn dump_record(words: &[u8], none: &[u8], held: Held) {
+    let indices = held.indices;
+    if held.mode == 7 {
+        rows::say_words(none);
+        return;
+    }
+    rows::say_record(words, held.mode, &indices);
+}
+
+// The set-up, the mark, and the four records.
+pub fn dump_state(state: State) {
+    let setup = state.setup;
+    let enabled = [bit(setup.iid), bit(setup.icc), bit(setup.ext)];
+    rows::say_state(
+        setup.iidmode,
+        setup.iccmode,
+        &enabled,
+        bit(state.instep) as u32,
+    );
+    let iid = state.iid;
+    dump_record(b"  record iid", b"  record iid -", iid);
+    let icc = state.icc;
+    dump_record(b"  record icc", b"  record icc -", icc);
+    let ipd = state.ipd;
+    dump_record(b"  record ipd", b"  record ipd -", ipd);
+    let opd = state.opd;
+    dump_record(b"  record opd", b"  record opd -", opd);
+}
