@@ -7,9 +7,12 @@ use mathlib.Core.List.{List, [], _∷_, _++_}
 use mathlib.Core.Bool.{true}
 use lib.ListN.{length, take}
 use Rattle.bits.specs.Bits.{bitAt}
-use Rattle.bits.specs.Reader.{got}
+use Rattle.bits.specs.Reader.{got, refused}
 use Rattle.bits.specs.Payload.{inBuffer, range, whole}
 use Rattle.bits.specs.Packed.{bytesFor, packed}
+use Rattle.channel.specs.Stream.{Stream, stream}
+use Rattle.channel.specs.Promise.{channel}
+use Rattle.channel.proofs.Demands.{only-the-range, cut-is-10}
 use Rattle.stereo.specs.State.{sound, lost}
 use Rattle.stereo.specs.Payload.{payload}
 use Rattle.stereo.specs.Stereo.{from, refusal, readBytes, readFrom}
@@ -19,13 +22,23 @@ use Rattle.stereo.proofs.StereoLaws.{outside-counts-not, read-cut}
 use Rattle.writer.specs.Spelling.{spelling}
 use Rattle.writer.specs.Writing.{writing}
 use Rattle.writer.proofs.WritingLaws.{write-read, read-write}
-use Rattle.runs.specs.Machine.{Event, payload as given, run, after, turn}
+use Rattle.runs.specs.Machine.{Event, payload as given, missing, reported, origin, judged, run, after, turn}
 use Rattle.runs.specs.Damage.{Restarting, NoRestart, AllLost, Silent}
+use Rattle.runs.proofs.TurnLaws.{own-turn, own-report}
 use Rattle.runs.proofs.Demand.{restored, nothing-between}
 use Rattle.promises.specs.Run.{stereo}
 use Rattle.promises.proofs.Turns.{steady}
 
--- demand 1, of a stereo payload: no bit outside counts, and no cut goes unseen
+-- demand 1, of a channel stream: no bit outside the range counts, and no cut goes unseen
+pub channel-outside : (buf other : List ℕ) (start end index lines factors books : ℕ) → length buf ≡ length other → range buf start end ≡ range other start end
+    → channel buf start end index lines factors books ≡ channel other start end index lines factors books
+channel-outside = only-the-range
+
+pub channel-cut : (index : ℕ) (bytes : List ℕ) (next : ℕ) (x : Stream) (k : ℕ) → whole (stream index) bytes ≡ got x next → 8 * k < next
+    → (place : ℕ) × (whole (stream index) (take k bytes) ≡ refused 10 place)
+channel-cut = cut-is-10
+
+-- and of a stereo payload
 pub outside : (st : State) (b b′ : List ℕ) (start end start′ end′ : ℕ) → inBuffer start end (length b) ≡ true → inBuffer start′ end′ (length b′) ≡ true
     → range b start end ≡ range b′ start′ end′ → readFrom st b start end ≡ readFrom st b′ start′ end′
 outside = outside-counts-not
@@ -43,6 +56,16 @@ pub read-writes : (st : State) (s : List ℕ) (room : ℕ) → sound st ≡ true
     → (writing st (readBytes st s .contents) room ≡ record { number = 0; bits = readBytes st s .bits; state = readBytes st s .state })
     × ((i : ℕ) → i < readBytes st s .bits → bitAt (packed (spelling (from st) (readBytes st s .contents))) i ≡ bitAt s i)
 read-writes = read-write
+
+-- in a run from the fresh state 4 does not arise, and 1 only where a range is outside its buffer
+pub own-refusals : (es : List Event) (b : List ℕ) (start end : ℕ) → inBuffer start end (length b) ≡ true
+    → turn stereo (after stereo (stereo .fresh) es) (given b start end)
+    ≡ judged stereo (after stereo (stereo .fresh) es) (stereo .read (origin stereo (after stereo (stereo .fresh) es)) (range b start end))
+own-refusals = own-turn stereo steady
+
+pub reports-taken : (es : List Event)
+    → turn stereo (after stereo (stereo .fresh) es) missing ≡ record { outcome = reported; state = lost (after stereo (stereo .fresh) es) }
+reports-taken = own-report stereo steady
 
 -- demand 3: in place of a stretch of a run stand any other events; between it and the payload none is a restart; the payload is one
 module _ (before stretch spoilt between : List Event) (b : List ℕ) (start end : ℕ) (rest : List Event) where

@@ -5,6 +5,11 @@ use mathlib.Core.Path.{_≡_, sym, _∙_, ap}
 use mathlib.Core.List.{List}
 use mathlib.Core.Bool.{Bool}
 use lib.ListN.{length}
+use Rattle.tag.specs.Image.{headerOf, partOf}
+use Rattle.tag.specs.declared.Header.{Header}
+use Rattle.tag.specs.declared.Part.{Part}
+use Rattle.held.specs.Took.{tookAt}
+use Rattle.held.specs.declared.Took.{Took}
 use Rattle.stereo.specs.State.{fresh, sound}
 use Rattle.stereo.specs.Stereo.{readFrom, missing}
 use Rattle.stereo.specs.declared.State.{State}
@@ -34,3 +39,15 @@ module _ (st : State) where
   one-writing c before after after′ r r′ p q =
       let e = p .0 ∙ sym (q .0) in
       (e, p .1 ∙ ap (λ (w : Written). writtenOver w st c before) e ∙ sym (q .1))
+
+-- of a tag image
+pub one-header : (image : List ℕ) (r r′ : Header) → r ≡ headerOf image → r′ ≡ headerOf image → r ≡ r′
+one-header image r r′ p q = p ∙ sym q
+
+pub one-part : (image : List ℕ) (k : ℕ) (r r′ : Part) → r ≡ partOf image k → r′ ≡ partOf image k → r ≡ r′
+one-part image k r r′ p q = p ∙ sym q
+
+-- of a field of the held bit reader: what was taken, and where the reader then stands
+pub one-field : (bytes : List ℕ) (at n : ℕ) (t t′ : Took) (next next′ : ℕ) → (t ≡ tookAt bytes at n) × (next ≡ t .next) → (t′ ≡ tookAt bytes at n) × (next′ ≡ t′ .next)
+    → (t ≡ t′) × (next ≡ next′)
+one-field bytes at n t t′ next next′ p q = let e = p .0 ∙ sym (q .0) in (e, p .1 ∙ ap (λ (t : Took). t .next) e ∙ sym (q .1))
