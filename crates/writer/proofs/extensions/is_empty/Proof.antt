@@ -7,11 +7,9 @@ use Rattle.writer.proofs.extensions.is_empty.Tie as tie
 use Rattle.writer.proofs.extensions.is_empty.Reads as reads
 use Rattle.writer.proofs.extensions.is_empty.Lts as lts
 
--- src/extensions.rt:130:9
 returns : tie.Need-returns
 returns c = rw (c .if1 .taken, zero-add)
 
--- src/extensions.rt:126:1
 returns-2 : tie.Need-returns-2
 returns-2 c = rw (ne-eqb (c .before .args .size + c .before .args .esc) 0 (omega arith))
 

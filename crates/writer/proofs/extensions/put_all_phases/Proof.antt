@@ -23,20 +23,16 @@ Inv-loop out₀ at on mode n codes lens phases ipd₀ opd₀ place₀ k₀ out i
 abbrev μ-loop : tie.MeasureT-loop
 μ-loop out₀ at on mode n codes lens phases ipd₀ opd₀ place₀ k₀ out ipd opd place k = 4 - k
 
--- src/extensions.rt:57:9
 returns : tie.Need-returns Inv-loop μ-loop
 unfolding spellAllPhases
 returns c = wrote-nothing (rw (ne-eqb _ _ (c .if1 .taken)))
 
--- src/extensions.rt:63:5
 loop-holds : tie.Need-loop-holds Inv-loop μ-loop
 loop-holds c = (omega arith, omega arith, search needs, refl, refl, wrote-none)
 
--- src/extensions.rt:65:13
 same-length : tie.Need-same-length Inv-loop μ-loop
 same-length c = wrote-length (c .before .before .loop .inv .5)
 
--- src/extensions.rt:65:13
 returns-2 : tie.Need-returns-2 Inv-loop μ-loop
 unfolding spellAllPhases
 returns-2 c = let l = c .before .before in
@@ -44,29 +40,23 @@ returns-2 c = let l = c .before .before in
     let e : l .loop .k ≡ a .n = omega arith in
     wrote-as (wrote-most (l .loop .inv .5) (omega arith)) (rw (eq-eqb (a .on) 1 (l .before .before .before .if1 .left), e))
 
--- src/extensions.rt:67:17
 mul-p : tie.Need-mul-p Inv-loop μ-loop
 mul-p c = search needs
 
--- src/extensions.rt:67:17
 array-copy-out-p : tie.Need-array-copy-out-p Inv-loop μ-loop
 array-copy-out-p c = search needs
 
--- src/extensions.rt:68:9
 put-phases-requires : tie.Need-put-phases-requires Inv-loop μ-loop
 put-phases-requires c κs = let l = c .before .before .before .before in
     let p = l .before .before .before .before .before .before .before .pre in
     (room-after (l .loop .inv .5) (p .0) (omega arith), p .1)
 
--- src/extensions.rt:75:9
 add-k : tie.Need-add-k Inv-loop μ-loop
 add-k c = search needs
 
--- src/extensions.rt:63:5
 loop-less : tie.Need-loop-less Inv-loop μ-loop
 loop-less c = search needs
 
--- src/extensions.rt:63:5
 loop-again : tie.Need-loop-again Inv-loop μ-loop
 loop-again c = let w = c .before .before .before .before .before .before in
     let l = w .before .before .before .before .before in
@@ -81,11 +71,9 @@ loop-again c = let w = c .before .before .before .before .before .before in
           (rw (l .loop .inv .3, l .loop .inv .4) (each-more (spellPhases (a .mode) (a .records .ipd) (a .records .opd)) _ (a .t7) (l .loop .k) (omega arith))),
     )
 
--- src/extensions.rt:42:1
 same-length-2 : tie.Need-same-length-2 Inv-loop μ-loop
 same-length-2 c = wrote-length (c .before .loop .inv .5)
 
--- src/extensions.rt:42:1
 returns-3 : tie.Need-returns-3 Inv-loop μ-loop
 unfolding spellAllPhases
 returns-3 c = let l = c .before in

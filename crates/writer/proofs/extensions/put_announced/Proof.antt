@@ -10,27 +10,21 @@ use Rattle.writer.proofs.extensions.at_most_seven.Reads as at-most-seve
 use Rattle.writer.proofs.extensions.put_body.Reads as put-body-reads
 use Rattle.writer.proofs.fields.put_field.Reads as put-field-reads
 
--- src/extensions.rt:107:9
 returns : tie.Need-returns
 returns c = wrote-nothing (rw (c .if1 .taken))
 
--- src/extensions.rt:110:9
 put-body-requires : tie.Need-put-body-requires
 put-body-requires c κs = search needs
 
--- src/extensions.rt:111:35
 at-most-seven-requires : tie.Need-at-most-seven-requires
 at-most-seven-requires c κs = search needs
 
--- src/extensions.rt:111:5
 put-field-requires : tie.Need-put-field-requires
 put-field-requires c κs = search needs
 
--- src/extensions.rt:92:1
 same-length : tie.Need-same-length
 same-length c = search needs
 
--- src/extensions.rt:92:1
 returns-2 : tie.Need-returns-2
 unfolding spellPart
 returns-2 c = let b = c .before .before in

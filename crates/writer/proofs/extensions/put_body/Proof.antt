@@ -9,27 +9,21 @@ use Rattle.writer.proofs.extensions.put_body.Lts as lts
 use Rattle.writer.proofs.extensions.put_all_phases.Reads as put-all-phases-reads
 use Rattle.writer.proofs.fields.put_field.Reads as put-field-reads
 
--- src/extensions.rt:74:9
 put-field-requires : tie.Need-put-field-requires
 put-field-requires c κs = search needs
 
--- src/extensions.rt:75:9
 put-field-requires-2 : tie.Need-put-field-requires-2
 put-field-requires-2 c κs = search needs
 
--- src/extensions.rt:77:9
 put-all-phases-requires : tie.Need-put-all-phases-requires
 put-all-phases-requires c κs = search needs
 
--- src/extensions.rt:78:5
 put-field-requires-3 : tie.Need-put-field-requires-3
 put-field-requires-3 c κs = search needs
 
--- src/extensions.rt:61:1
 same-length : tie.Need-same-length
 same-length c = search needs
 
--- src/extensions.rt:61:1
 returns : tie.Need-returns
 unfolding spellBody
 returns c = let d = c .before .before in

@@ -7,19 +7,15 @@ use Rattle.writer.proofs.extensions.put_escape.Reads as reads
 use Rattle.writer.proofs.extensions.put_escape.Lts as lts
 use Rattle.writer.proofs.fields.put_field.Reads as put-field-reads
 
--- src/extensions.rt:120:9
 put-field-requires : tie.Need-put-field-requires
 put-field-requires c κs = search needs
 
--- src/extensions.rt:120:9
 same-length : tie.Need-same-length
 same-length c = search needs
 
--- src/extensions.rt:120:9
 returns : tie.Need-returns
 returns c = wrote-as (c .before .before .put-field .ensures) (rw (eq-eqb _ _ (c .before .before .before .before .if1 .taken)))
 
--- src/extensions.rt:115:1
 returns-2 : tie.Need-returns-2
 returns-2 c = wrote-nothing (rw (ne-eqb _ _ (c .if1 .left)))
 

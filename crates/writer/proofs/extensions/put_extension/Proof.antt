@@ -12,32 +12,25 @@ use Rattle.writer.proofs.extensions.put_announced.Reads as put-announce
 use Rattle.writer.proofs.extensions.put_escape.Reads as put-escape-reads
 use Rattle.writer.proofs.fields.put_field.Reads as put-field-reads
 
--- src/extensions.rt:151:9
 returns : tie.Need-returns
 unfolding spellExtension
 returns c = wrote-nothing (rw (not-true (c .before .before .before .before .args .on) (c .if1 .taken)))
 
--- src/extensions.rt:153:9
 put-field-requires : tie.Need-put-field-requires
 put-field-requires c κs = search needs
 
--- src/extensions.rt:154:9
 put-escape-requires : tie.Need-put-escape-requires
 put-escape-requires c κs = search needs
 
--- src/extensions.rt:162:9
 is-empty-requires : tie.Need-is-empty-requires
 is-empty-requires c κs = search needs
 
--- src/extensions.rt:156:5
 put-announced-requires : tie.Need-put-announced-requires
 put-announced-requires c κs = search needs
 
--- src/extensions.rt:136:1
 same-length : tie.Need-same-length
 same-length c = search needs
 
--- src/extensions.rt:136:1
 returns-2 : tie.Need-returns-2
 unfolding spellExtension spellSent spellAnnounced
 returns-2 c = let k = c .before .before in

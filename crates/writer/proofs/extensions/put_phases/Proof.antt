@@ -7,19 +7,15 @@ use Rattle.writer.proofs.extensions.put_phases.Reads as reads
 use Rattle.writer.proofs.extensions.put_phases.Lts as lts
 use Rattle.writer.proofs.rows.put_row.Reads as put-row-reads
 
--- src/extensions.rt:36:9
 put-row-requires : tie.Need-put-row-requires
 put-row-requires c κs = search needs
 
--- src/extensions.rt:38:5
 put-row-requires-2 : tie.Need-put-row-requires-2
 put-row-requires-2 c κs = search needs
 
--- src/extensions.rt:22:1
 same-length : tie.Need-same-length
 same-length c = search needs
 
--- src/extensions.rt:22:1
 returns : tie.Need-returns
 returns c = let b = c .before .before in
     let a = b .before .before .before .before .before in

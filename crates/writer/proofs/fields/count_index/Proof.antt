@@ -7,30 +7,24 @@ use Rattle.writer.proofs.fields.count_index.Reads as reads
 use Rattle.writer.proofs.fields.count_index.Lts as lts
 use Rattle.writer.proofs.fields.at_most_four.Reads as at-most-four-reads
 
--- src/fields.rt:67:9
 at-most-four-requires : tie.Need-at-most-four-requires
 at-most-four-requires c κs = search needs
 
--- src/fields.rt:70:13
 returns : tie.Need-returns
 unfolding countIndex
 returns c = rw (eq-eqb _ _ (c .before .if1 .taken), ← (c .before .before .at-most-four .ensures), c .if2 .taken)
 
--- src/fields.rt:72:16
 sub-result : tie.Need-sub-result
 sub-result c = search needs
 
--- src/fields.rt:72:9
 returns-2 : tie.Need-returns-2
 unfolding countIndex
 returns-2 c = rw (eq-eqb _ _ (c .before .if1 .taken), c .before .before .at-most-four .ensures)
 
--- src/fields.rt:75:9
 returns-3 : tie.Need-returns-3
 unfolding countIndex
 returns-3 c = rw (ne-eqb _ _ (c .before .if1 .left), eq-eqb _ _ (c .if3 .taken))
 
--- src/fields.rt:64:1
 returns-4 : tie.Need-returns-4
 unfolding countIndex
 returns-4 c = rw (ne-eqb _ _ (c .before .if1 .left), ne-eqb _ _ (c .if3 .left)) (c .before .before .at-most-four .ensures)

@@ -21,20 +21,16 @@ Inv-loop out₀ at class n borders place₀ k₀ out place k = (k ≤ 4) × (k �
 abbrev μ-loop : tie.MeasureT-loop
 μ-loop out₀ at class n borders place₀ k₀ out place k = 4 - k
 
--- src/fields.rt:86:9
 returns : tie.Need-returns Inv-loop μ-loop
 unfolding spellBorders
 returns c = wrote-nothing (rw (ne-eqb _ _ (c .if1 .taken)))
 
--- src/fields.rt:90:5
 loop-holds : tie.Need-loop-holds Inv-loop μ-loop
 loop-holds c = (omega arith, omega arith, search needs, wrote-none)
 
--- src/fields.rt:92:13
 same-length : tie.Need-same-length Inv-loop μ-loop
 same-length c = wrote-length (c .before .before .loop .inv .3)
 
--- src/fields.rt:92:13
 returns-2 : tie.Need-returns-2 Inv-loop μ-loop
 unfolding spellBorders
 returns-2 c = let l = c .before .before in
@@ -42,28 +38,22 @@ returns-2 c = let l = c .before .before in
     let e : l .loop .k ≡ a .n = omega arith in
     wrote-as (wrote-most (l .loop .inv .3) (omega arith)) (rw (eq-eqb (a .class) 1 (l .before .if1 .left), e))
 
--- src/fields.rt:94:39
 mul-put-field : tie.Need-mul-put-field Inv-loop μ-loop
 mul-put-field c = search needs
 
--- src/fields.rt:94:39
 array-read-put-field : tie.Need-array-read-put-field Inv-loop μ-loop
 array-read-put-field c = search needs
 
--- src/fields.rt:94:9
 put-field-requires : tie.Need-put-field-requires Inv-loop μ-loop
 put-field-requires c κs = let l = c .before .before .before in
     (room-after (l .loop .inv .3) (l .before .before .before .pre) (omega arith), omega arith)
 
--- src/fields.rt:95:9
 add-k : tie.Need-add-k Inv-loop μ-loop
 add-k c = search needs
 
--- src/fields.rt:90:5
 loop-less : tie.Need-loop-less Inv-loop μ-loop
 loop-less c = search needs
 
--- src/fields.rt:90:5
 loop-again : tie.Need-loop-again Inv-loop μ-loop
 loop-again c = let l = c .before .before .before .before .before .before in
     let a = l .before .before .before .args in
@@ -74,11 +64,9 @@ loop-again c = let l = c .before .before .before .before .before .before in
       wrote-as (wrote-then (l .loop .inv .3) (c .before .before .put-field .ensures) (omega arith)) (each-more spellBorder 0 (a .t5) (l .loop .k) (omega arith)),
     )
 
--- src/fields.rt:81:1
 same-length-2 : tie.Need-same-length-2 Inv-loop μ-loop
 same-length-2 c = wrote-length (c .before .loop .inv .3)
 
--- src/fields.rt:81:1
 returns-3 : tie.Need-returns-3 Inv-loop μ-loop
 unfolding spellBorders
 returns-3 c = let l = c .before in

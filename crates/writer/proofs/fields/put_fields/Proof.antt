@@ -9,31 +9,24 @@ use Rattle.writer.proofs.fields.put_fields.Lts as lts
 use Rattle.writer.proofs.fields.put_field.Reads as put-field-reads
 use Rattle.writer.proofs.fields.put_mode.Reads as put-mode-reads
 
--- src/fields.rt:34:9
 put-field-requires : tie.Need-put-field-requires
 put-field-requires c κs = search needs
 
--- src/fields.rt:35:9
 put-mode-requires : tie.Need-put-mode-requires
 put-mode-requires c κs = search needs
 
--- src/fields.rt:36:9
 put-field-requires-2 : tie.Need-put-field-requires-2
 put-field-requires-2 c κs = search needs
 
--- src/fields.rt:37:9
 put-mode-requires-2 : tie.Need-put-mode-requires-2
 put-mode-requires-2 c κs = search needs
 
--- src/fields.rt:38:5
 put-field-requires-3 : tie.Need-put-field-requires-3
 put-field-requires-3 c κs = search needs
 
--- src/fields.rt:30:1
 same-length : tie.Need-same-length
 same-length c = search needs
 
--- src/fields.rt:30:1
 returns : tie.Need-returns
 unfolding spellFields
 returns c = let e = c .before .before in

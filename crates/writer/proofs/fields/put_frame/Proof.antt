@@ -10,27 +10,21 @@ use Rattle.writer.proofs.fields.count_index.Reads as count-index-reads
 use Rattle.writer.proofs.fields.put_borders.Reads as put-borders-reads
 use Rattle.writer.proofs.fields.put_field.Reads as put-field-reads
 
--- src/fields.rt:106:9
 put-field-requires : tie.Need-put-field-requires
 put-field-requires c κs = search needs
 
--- src/fields.rt:107:31
 count-index-requires : tie.Need-count-index-requires
 count-index-requires c κs = search needs
 
--- src/fields.rt:107:9
 put-field-requires-2 : tie.Need-put-field-requires-2
 put-field-requires-2 c κs = search needs
 
--- src/fields.rt:109:5
 put-borders-requires : tie.Need-put-borders-requires
 put-borders-requires c κs = search needs
 
--- src/fields.rt:101:1
 same-length : tie.Need-same-length
 same-length c = search needs
 
--- src/fields.rt:101:1
 returns : tie.Need-returns
 unfolding spellFrame
 returns c = let k = c .before .before in

@@ -10,19 +10,15 @@ use Rattle.writer.proofs.fields.put_header.Lts as lts
 use Rattle.writer.proofs.fields.put_field.Reads as put-field-reads
 use Rattle.writer.proofs.fields.put_fields.Reads as put-fields-reads
 
--- src/fields.rt:46:9
 put-field-requires : tie.Need-put-field-requires
 put-field-requires c κs = search needs
 
--- src/fields.rt:48:9
 put-fields-requires : tie.Need-put-fields-requires
 put-fields-requires c κs = search needs
 
--- src/fields.rt:48:9
 same-length : tie.Need-same-length
 same-length c = search needs
 
--- src/fields.rt:48:9
 returns : tie.Need-returns
 unfolding spellHeader
 returns c = let b = c .before .before in
@@ -30,11 +26,9 @@ returns c = let b = c .before .before in
     let a = t .before .before .before .before in
     wrote-as (wrote-then (a .put-field .ensures) (b .put-fields .ensures) (omega arith)) (rw (eq-eqb _ _ (t .if1 .taken)))
 
--- src/fields.rt:42:1
 same-length-2 : tie.Need-same-length-2
 same-length-2 c = search needs
 
--- src/fields.rt:42:1
 returns-2 : tie.Need-returns-2
 unfolding spellHeader
 returns-2 c = let a = c .before .before .before .before in

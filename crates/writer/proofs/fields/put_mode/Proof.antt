@@ -8,20 +8,16 @@ use Rattle.writer.proofs.fields.put_mode.Reads as reads
 use Rattle.writer.proofs.fields.put_mode.Lts as lts
 use Rattle.writer.proofs.fields.put_field.Reads as put-field-reads
 
--- src/fields.rt:24:9
 put-field-requires : tie.Need-put-field-requires
 put-field-requires c κs = search needs
 
--- src/fields.rt:24:9
 same-length : tie.Need-same-length
 same-length c = search needs
 
--- src/fields.rt:24:9
 returns : tie.Need-returns
 unfolding spellMode
 returns c = wrote-as (c .before .before .put-field .ensures) (rw (eq-eqb _ _ (c .before .before .before .before .if1 .taken)))
 
--- src/fields.rt:19:1
 returns-2 : tie.Need-returns-2
 unfolding spellMode
 returns-2 c = wrote-nothing (rw (ne-eqb _ _ (c .if1 .left)))

@@ -12,32 +12,25 @@ use Rattle.writer.proofs.extensions.put_extension.Reads as put-extensio
 use Rattle.writer.proofs.payloads.put_levels.Reads as put-levels-reads
 use Rattle.writer.proofs.rows.put_rows.Reads as put-rows-reads
 
--- src/payloads.rt:54:9
 setup-after-requires : tie.Need-setup-after-requires
 setup-after-requires c κs = search needs
 
--- src/payloads.rt:55:9
 put-levels-requires : tie.Need-put-levels-requires
 put-levels-requires c κs = search needs
 
--- src/payloads.rt:61:9
 put-rows-requires : tie.Need-put-rows-requires
 put-rows-requires c κs = search needs
 
--- src/payloads.rt:62:9
 phase-records-requires : tie.Need-phase-records-requires
 phase-records-requires c κs = search needs
 
--- src/payloads.rt:64:5
 put-extension-requires : tie.Need-put-extension-requires
 put-extension-requires c κs = let two = wrote-then {most = 5481} (c .before .before .before .before .before .before .before .before .before .before .before .before .put-levels .ensures) (c .before .before .before .before .before .put-rows .ensures) (omega arith) in
     (room-after two (c .before .before .before .before .before .before .before .before .before .before .before .before .before .before .before .before .before .before .before .before .pre .0) (omega arith), c .before .before .before .before .before .before .before .before .before .before .before .before .before .before .before .before .before .before .before .before .pre .1)
 
--- src/payloads.rt:42:1
 same-length : tie.Need-same-length
 same-length c = search needs
 
--- src/payloads.rt:42:1
 returns : tie.Need-returns
 unfolding spelling spellingIn
 returns c = let two = wrote-then {most = 5481} (c .before .before .before .before .before .before .before .before .before .before .before .before .before .before .before .put-levels .ensures) (c .before .before .before .before .before .before .before .before .put-rows .ensures) (omega arith) in

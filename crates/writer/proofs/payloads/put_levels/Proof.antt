@@ -9,23 +9,18 @@ use Rattle.writer.proofs.fields.put_frame.Reads as put-frame-reads
 use Rattle.writer.proofs.fields.put_header.Reads as put-header-reads
 use Rattle.writer.proofs.rows.put_rows.Reads as put-rows-reads
 
--- src/payloads.rt:30:9
 put-header-requires : tie.Need-put-header-requires
 put-header-requires c κs = search needs
 
--- src/payloads.rt:32:9
 put-frame-requires : tie.Need-put-frame-requires
 put-frame-requires c κs = search needs
 
--- src/payloads.rt:38:5
 put-rows-requires : tie.Need-put-rows-requires
 put-rows-requires c κs = search needs
 
--- src/payloads.rt:18:1
 same-length : tie.Need-same-length
 same-length c = search needs
 
--- src/payloads.rt:18:1
 returns : tie.Need-returns
 returns c = let two = wrote-then {most = 33} (c .before .before .before .before .before .before .before .before .before .before .before .before .before .put-header .ensures) (c .before .before .before .before .before .before .before .before .put-frame .ensures) (omega arith) in
     wrote-then two (c .before .before .put-rows .ensures) (omega arith)

@@ -16,19 +16,15 @@ use Rattle.writer.proofs.rows.entry_at.Reads as reads
 use Rattle.writer.proofs.rows.entry_at.Lts as lts
 use Rattle.writer.proofs.rows.entry_to.Reads as entry-to-reads
 
--- src/rows.rt:57:37
 array-copy-out-entry-to : tie.Need-array-copy-out-entry-to
 array-copy-out-entry-to c = search needs
 
--- src/rows.rt:57:48
 array-copy-out-entry-to-2 : tie.Need-array-copy-out-entry-to-2
 array-copy-out-entry-to-2 c = search needs
 
--- src/rows.rt:57:9
 entry-to-requires : tie.Need-entry-to-requires
 entry-to-requires c κs = search needs
 
--- src/rows.rt:57:9
 returns : tie.Need-returns
 unfolding reference
 returns c = let a = c .before .before .before .before .args in
@@ -38,38 +34,30 @@ returns c = let a = c .before .before .before .before .args in
     let f : SFits w8 (getD (a .t5) (a .i) (pos 0)) = record { sfits = c .before .entry-to-arg2 .given } in
     c .entry-to .ensures ∙ rw (toZ-ofZ w8 _ e, toZ-ofZ w8 _ f, eq-eqb _ _ (c .before .before .before .if1 .taken), l)
 
--- src/rows.rt:60:40
 array-copy-out-entry-to-3 : tie.Need-array-copy-out-entry-to-3
 array-copy-out-entry-to-3 c = search needs
 
--- src/rows.rt:60:9
 entry-to-requires-2 : tie.Need-entry-to-requires-2
 entry-to-requires-2 c κs = search needs
 
--- src/rows.rt:60:9
 returns-2 : tie.Need-returns-2
 unfolding reference
 returns-2 c = let a = c .before .before .before .before .args in
     let f : SFits w8 (getD (a .t5) 0 (pos 0)) = record { sfits = c .before .entry-to-arg3 .given } in
     c .entry-to2 .ensures ∙ rw (toZ-ofZ w8 _ f, ne-eqb _ _ (c .before .before .before .if1 .left), c .before .before .if2 .taken)
 
--- src/rows.rt:62:29
 sub-entry-to : tie.Need-sub-entry-to
 sub-entry-to c = search needs
 
--- src/rows.rt:62:26
 array-copy-out-entry-to-4 : tie.Need-array-copy-out-entry-to-4
 array-copy-out-entry-to-4 c = search needs
 
--- src/rows.rt:62:37
 array-copy-out-entry-to-5 : tie.Need-array-copy-out-entry-to-5
 array-copy-out-entry-to-5 c = search needs
 
--- src/rows.rt:62:5
 entry-to-requires-3 : tie.Need-entry-to-requires-3
 entry-to-requires-3 c κs = search needs
 
--- src/rows.rt:52:1
 returns-3 : tie.Need-returns-3
 unfolding reference
 returns-3 c = let a = c .before .before .before .before .before .args in

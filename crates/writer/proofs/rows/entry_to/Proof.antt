@@ -16,61 +16,48 @@ use Rattle.differences.proofs.kinds.is_phase.Reads as is-phase-reads
 use Rattle.differences.proofs.steps.magnitude.Reads as magnitude-reads
 use Rattle.differences.proofs.steps.middle.Reads as middle-reads
 
--- src/rows.rt:24:8
 is-phase-requires : tie.Need-is-phase-requires
 is-phase-requires c κs = search needs
 
--- src/rows.rt:25:17
 magnitude-requires : tie.Need-magnitude-requires
 magnitude-requires c κs = search needs
 
--- src/rows.rt:25:17
 add-result : tie.Need-add-result
 add-result c = search needs
 
--- src/rows.rt:25:43
 magnitude-requires-2 : tie.Need-magnitude-requires-2
 magnitude-requires-2 c κs = search needs
 
--- src/rows.rt:25:17
 sub-result : tie.Need-sub-result
 sub-result c = search needs
 
--- src/rows.rt:25:9
 returns : tie.Need-returns
 unfolding entryTo
 returns c = let p = c .before .before .before in
     let a = p .before in
     rw (← (p .is-phase .ensures), c .before .before .if1 .taken, c .before .magnitude .ensures .0, c .magnitude2 .ensures .0, toZ-ofZ w8 _ (a .fits .x), toZ-ofZ w8 _ (a .fits .y))
 
--- src/rows.rt:27:16
 cast-step : tie.Need-cast-step
 cast-step c = wide-fits _ (c .before .before .fits .y)
 
--- src/rows.rt:27:27
 cast-step-2 : tie.Need-cast-step-2
 cast-step-2 c = wide-fits _ (c .before .before .fits .x)
 
--- src/rows.rt:27:16
 sub-step : tie.Need-sub-step
 sub-step c = let a = c .before .before in gap-fits _ _ (a .fits .x) (a .fits .y)
 
--- src/rows.rt:27:38
 middle-requires : tie.Need-middle-requires
 middle-requires c κs = search needs
 
--- src/rows.rt:27:16
 add-step : tie.Need-add-step
 add-step c = let a = c .before .before .before in step-fits (a .args .kind) (a .args .mode) _ _ _ (a .fits .x) (a .fits .y) (c .middle .ensures)
 
--- src/rows.rt:29:17
 sub-result-2 : tie.Need-sub-result-2
 sub-result-2 c = let a = c .before .before .before .before in
     let e = step-thru (a .args .kind) (a .args .mode) _ _ _ (a .fits .x) (a .fits .y) (c .before .middle .ensures) in
     let n = neg-parts (step (a .args .kind) (a .args .mode) (a .args .x) (a .args .y)) (rw e at (c .if2 .taken)) in
     rw e (fits 286 (rw (n .1) (step-abs (a .args .kind) (a .args .mode) _ _ (a .fits .x) (a .fits .y))) (omega arith))
 
--- src/rows.rt:29:16
 cast-result : tie.Need-cast-result
 cast-result c = let a = c .before .before .before .before in
     let s = step (a .args .kind) (a .args .mode) (a .args .x) (a .args .y) in
@@ -79,7 +66,6 @@ cast-result c = let a = c .before .before .before .before in
     let l : natAbs (pos 0 -ℤ s) ≤ 286 = rw (n .1) (step-abs (a .args .kind) (a .args .mode) _ _ (a .fits .x) (a .fits .y)) in
     rw (e, thru w16 286 l (omega arith)) (n .0, record { fits = omega arith })
 
--- src/rows.rt:29:9
 returns-2 : tie.Need-returns-2
 unfolding entryTo
 returns-2 c = let a = c .before .before .before .before in
@@ -89,7 +75,6 @@ returns-2 c = let a = c .before .before .before .before in
     let l : natAbs (pos 0 -ℤ s) ≤ 286 = rw (n .1) (step-abs (a .args .kind) (a .args .mode) _ _ (a .fits .x) (a .fits .y)) in
     rw (e, thru w16 286 l (omega arith), ← (c .before .before .before .is-phase .ensures), c .before .before .if1 .left) (n .1)
 
--- src/rows.rt:31:5
 cast-result-2 : tie.Need-cast-result-2
 cast-result-2 c = let a = c .before .before .before .before in
     let s = step (a .args .kind) (a .args .mode) (a .args .x) (a .args .y) in
@@ -97,7 +82,6 @@ cast-result-2 c = let a = c .before .before .before .before in
     let l = step-abs (a .args .kind) (a .args .mode) _ _ (a .fits .x) (a .fits .y) in
     rw e (not-neg s (rw e at (c .if2 .left)), record { fits = omega arith })
 
--- src/rows.rt:21:1
 returns-3 : tie.Need-returns-3
 unfolding entryTo
 returns-3 c = let a = c .before .before .before .before in

@@ -26,38 +26,30 @@ Inv-loop out₀ at kind mode time before xs codes lens count table place₀ i₀
 abbrev μ-loop : tie.MeasureT-loop
 μ-loop out₀ at kind mode time before xs codes lens count table place₀ i₀ out place i = count - i
 
--- src/rows.rt:80:9
 bands-requires : tie.Need-bands-requires Inv-loop μ-loop
 bands-requires c κs = search needs
 
--- src/rows.rt:81:9
 difference-table-requires : tie.Need-difference-table-requires Inv-loop μ-loop
 difference-table-requires c κs = search needs
 
--- src/rows.rt:84:5
 loop-holds : tie.Need-loop-holds Inv-loop μ-loop
 loop-holds c = (omega arith, search needs, wrote-none)
 
--- src/rows.rt:85:13
 entry-at-requires : tie.Need-entry-at-requires Inv-loop μ-loop
 entry-at-requires c κs = search needs
 
--- src/rows.rt:86:9
 put-word-requires : tie.Need-put-word-requires Inv-loop μ-loop
 put-word-requires c κs = let l = c .before .before .before in
     let p = l .before .before .before .before .before .before .pre in
     let n = l .before .before .bands .ensures .1 in
     (room-after (l .loop .inv .2) (p .0) (omega arith), p .1)
 
--- src/rows.rt:87:9
 add-i : tie.Need-add-i Inv-loop μ-loop
 add-i c = search needs
 
--- src/rows.rt:84:5
 loop-less : tie.Need-loop-less Inv-loop μ-loop
 loop-less c = search needs
 
--- src/rows.rt:84:5
 loop-again : tie.Need-loop-again Inv-loop μ-loop
 loop-again c = let l = c .before .before .before .before .before .before in
     let a = l .before .before .before .before .before .before .args in
@@ -68,11 +60,9 @@ loop-again c = let l = c .before .before .before .before .before .before in
     let e = c .before .before .before .before .entry-at .ensures in
     (omega arith, n, wrote-as (wrote-then (l .loop .inv .2) w (omega arith)) (rw (t, e) (each-more (spellIndex (a .kind) (a .mode) (a .time) (a .before)) (pos 0) (a .xs) (l .loop .i) (omega arith))))
 
--- src/rows.rt:66:1
 same-length : tie.Need-same-length Inv-loop μ-loop
 same-length c = wrote-length (c .before .loop .inv .2)
 
--- src/rows.rt:66:1
 returns : tie.Need-returns Inv-loop μ-loop
 returns c = let l = c .before in
     let a = l .before .before .before .before .before .before .args in

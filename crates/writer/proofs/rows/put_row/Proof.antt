@@ -9,19 +9,15 @@ use Rattle.writer.proofs.rows.put_row.Lts as lts
 use Rattle.writer.proofs.fields.put_field.Reads as put-field-reads
 use Rattle.writer.proofs.rows.put_indices.Reads as put-indices-reads
 
--- src/rows.rt:106:9
 put-field-requires : tie.Need-put-field-requires
 put-field-requires c κs = search needs
 
--- src/rows.rt:109:5
 put-indices-requires : tie.Need-put-indices-requires
 put-indices-requires c κs = search needs
 
--- src/rows.rt:93:1
 same-length : tie.Need-same-length
 same-length c = search needs
 
--- src/rows.rt:93:1
 returns : tie.Need-returns
 unfolding spellRow
 returns c = let b = c .before .before in

@@ -22,20 +22,16 @@ Inv-loop out₀ at kind on mode n codes lens rows last₀ place₀ k₀ out last
 abbrev μ-loop : tie.MeasureT-loop
 μ-loop out₀ at kind on mode n codes lens rows last₀ place₀ k₀ out last place k = 4 - k
 
--- src/rows.rt:129:9
 returns : tie.Need-returns Inv-loop μ-loop
 unfolding spellRows
 returns c = wrote-nothing (rw (not-true (c .before .before .before .before .args .on) (c .if1 .taken)))
 
--- src/rows.rt:134:5
 loop-holds : tie.Need-loop-holds Inv-loop μ-loop
 loop-holds c = (omega arith, omega arith, search needs, refl, wrote-none)
 
--- src/rows.rt:136:13
 same-length : tie.Need-same-length Inv-loop μ-loop
 same-length c = wrote-length (c .before .before .loop .inv .4)
 
--- src/rows.rt:136:13
 returns-2 : tie.Need-returns-2 Inv-loop μ-loop
 unfolding spellRows
 returns-2 c = let l = c .before .before in
@@ -43,29 +39,23 @@ returns-2 c = let l = c .before .before in
     let e : l .loop .k ≡ a .n = omega arith in
     wrote-as (wrote-most (l .loop .inv .4) (omega arith)) (rw (not-false (a .on) (l .before .if1 .left), e))
 
--- src/rows.rt:138:19
 mul-row : tie.Need-mul-row Inv-loop μ-loop
 mul-row c = search needs
 
--- src/rows.rt:138:19
 array-copy-out-row : tie.Need-array-copy-out-row Inv-loop μ-loop
 array-copy-out-row c = search needs
 
--- src/rows.rt:139:9
 put-row-requires : tie.Need-put-row-requires Inv-loop μ-loop
 put-row-requires c κs = let l = c .before .before .before .before in
     let p = l .before .before .before .before .before .pre in
     (room-after (l .loop .inv .4) (p .0) (omega arith), p .1)
 
--- src/rows.rt:142:9
 add-k : tie.Need-add-k Inv-loop μ-loop
 add-k c = search needs
 
--- src/rows.rt:134:5
 loop-less : tie.Need-loop-less Inv-loop μ-loop
 loop-less c = search needs
 
--- src/rows.rt:134:5
 loop-again : tie.Need-loop-again Inv-loop μ-loop
 loop-again c = let l = c .before .before .before .before .before .before .before .before in
     let a = l .before .before .before .before .before .args in
@@ -78,11 +68,9 @@ loop-again c = let l = c .before .before .before .before .before .before .before
           (rw (l .loop .inv .3) (each-more (spellNext (a .kind) (a .mode) (a .held)) _ (a .t8) (l .loop .k) (omega arith))),
     )
 
--- src/rows.rt:113:1
 same-length-2 : tie.Need-same-length-2 Inv-loop μ-loop
 same-length-2 c = wrote-length (c .before .loop .inv .4)
 
--- src/rows.rt:113:1
 returns-3 : tie.Need-returns-3 Inv-loop μ-loop
 unfolding spellRows
 returns-3 c = let l = c .before in

@@ -8,16 +8,13 @@ use Rattle.writer.proofs.same.same_body.Reads as reads
 use Rattle.writer.proofs.same.same_body.Lts as lts
 use Rattle.writer.proofs.same.same_all_phases.Reads as same-all-phases-reads
 
--- src/same.rt:92:9
 returns : tie.Need-returns
 unfolding sameBody
 returns c = rw (ne-eqb _ _ (c .if1 .taken))
 
--- src/same.rt:96:5
 same-all-phases-requires : tie.Need-same-all-phases-requires
 same-all-phases-requires c κs = search needs
 
--- src/same.rt:88:1
 returns-2 : tie.Need-returns-2
 unfolding sameBody
 returns-2 c = c .same-all-phases .ensures ∙ rw (eq-eqb _ _ (c .before .before .before .if1 .left))

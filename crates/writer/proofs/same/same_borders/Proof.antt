@@ -15,43 +15,33 @@ Inv-loop xs ys i₀ i = SoFar eqb 0 4 i xs ys
 abbrev μ-loop : tie.MeasureT-loop
 μ-loop xs ys i₀ i = 4 - i
 
--- src/same.rt:159:5
 loop-holds : tie.Need-loop-holds Inv-loop μ-loop
 loop-holds c = same-start eqb 0 4 _ _ (search needs) (search needs)
 
--- src/same.rt:160:12
 mul-if1 : tie.Need-mul-if1 Inv-loop μ-loop
 mul-if1 c = search needs
 
--- src/same.rt:160:12
 array-read-if1 : tie.Need-array-read-if1 Inv-loop μ-loop
 array-read-if1 c = search needs
 
--- src/same.rt:160:21
 mul-if1-2 : tie.Need-mul-if1-2 Inv-loop μ-loop
 mul-if1-2 c = search needs
 
--- src/same.rt:160:21
 array-read-if1-2 : tie.Need-array-read-if1-2 Inv-loop μ-loop
 array-read-if1-2 c = search needs
 
--- src/same.rt:161:13
 returns : tie.Need-returns Inv-loop μ-loop
 returns c = same-stop eqb 0 (c .before .before .loop .inv) (omega arith) (ne-eqb _ _ (c .if1 .taken))
 
--- src/same.rt:163:9
 add-i : tie.Need-add-i Inv-loop μ-loop
 add-i c = search needs
 
--- src/same.rt:159:5
 loop-less : tie.Need-loop-less Inv-loop μ-loop
 loop-less c = search needs
 
--- src/same.rt:159:5
 loop-again : tie.Need-loop-again Inv-loop μ-loop
 loop-again c = same-more eqb 0 (c .before .before .loop .inv) (omega arith) (eq-eqb _ _ (c .if1 .left))
 
--- src/same.rt:155:1
 returns-2 : tie.Need-returns-2 Inv-loop μ-loop
 returns-2 c = same-done eqb 0 (c .before .loop .inv) (omega arith)
 

@@ -11,41 +11,33 @@ use Rattle.writer.proofs.same.same_frame.Reads as same-frame-reads
 use Rattle.writer.proofs.same.same_header.Reads as same-header-reads
 use Rattle.writer.proofs.same.same_kinds.Reads as same-kinds-reads
 
--- src/same.rt:203:9
 same-header-requires : tie.Need-same-header-requires
 same-header-requires c κs = search needs
 
--- src/same.rt:204:9
 returns : tie.Need-returns
 unfolding sameContents
 returns c = rw (← (c .before .same-header .ensures), not-true (c .before .same-header .result) (c .if1 .taken))
 
--- src/same.rt:208:9
 same-frame-requires : tie.Need-same-frame-requires
 same-frame-requires c κs = search needs
 
--- src/same.rt:209:9
 returns-2 : tie.Need-returns-2
 unfolding sameContents
 returns-2 c = let t = c .before .before .before .before in
     rw (← (t .before .same-header .ensures), not-false (t .before .same-header .result) (t .if1 .left), ← (c .before .same-frame .ensures), not-true (c .before .same-frame .result) (c .if2 .taken))
 
--- src/same.rt:211:9
 same-kinds-requires : tie.Need-same-kinds-requires
 same-kinds-requires c κs = search needs
 
--- src/same.rt:212:9
 returns-3 : tie.Need-returns-3
 unfolding sameContents
 returns-3 c = let f = c .before .before in
     let h = f .before .before .before .before in
     rw (← (h .before .same-header .ensures), not-false (h .before .same-header .result) (h .if1 .left), ← (f .before .same-frame .ensures), not-false (f .before .same-frame .result) (f .if2 .left), ← (c .before .same-kinds .ensures), not-true (c .before .same-kinds .result) (c .if3 .taken))
 
--- src/same.rt:216:5
 same-extension-requires : tie.Need-same-extension-requires
 same-extension-requires c κs = search needs
 
--- src/same.rt:198:1
 returns-4 : tie.Need-returns-4
 unfolding sameContents
 returns-4 c = let k = c .before .before .before in

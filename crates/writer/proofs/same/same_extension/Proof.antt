@@ -8,26 +8,21 @@ use Rattle.writer.proofs.same.same_extension.Reads as reads
 use Rattle.writer.proofs.same.same_extension.Lts as lts
 use Rattle.writer.proofs.same.same_part.Reads as same-part-reads
 
--- src/same.rt:119:9
 returns : tie.Need-returns
 unfolding sameExtension
 returns c = rw (ne-eqb _ _ (c .if1 .taken))
 
--- src/same.rt:122:9
 returns-2 : tie.Need-returns-2
 unfolding sameExtension
 returns-2 c = rw (eq-eqb _ _ (c .before .before .before .if1 .left), ne-eqb _ _ (c .if2 .taken))
 
--- src/same.rt:125:9
 returns-3 : tie.Need-returns-3
 unfolding sameExtension
 returns-3 c = rw (eq-eqb _ _ (c .before .before .before .before .before .before .if1 .left), eq-eqb _ _ (c .before .before .before .if2 .left), ne-eqb _ _ (c .if3 .taken))
 
--- src/same.rt:129:5
 same-part-requires : tie.Need-same-part-requires
 same-part-requires c κs = search needs
 
--- src/same.rt:115:1
 returns-4 : tie.Need-returns-4
 unfolding sameExtension
 returns-4 c = let t = c .before .before .before in

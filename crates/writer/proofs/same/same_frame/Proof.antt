@@ -8,21 +8,17 @@ use Rattle.writer.proofs.same.same_frame.Reads as reads
 use Rattle.writer.proofs.same.same_frame.Lts as lts
 use Rattle.writer.proofs.same.same_borders.Reads as same-borders-reads
 
--- src/same.rt:173:9
 returns : tie.Need-returns
 unfolding sameFrame
 returns c = rw (ne-eqb _ _ (c .if1 .taken))
 
--- src/same.rt:176:9
 returns-2 : tie.Need-returns-2
 unfolding sameFrame
 returns-2 c = rw (eq-eqb _ _ (c .before .before .before .if1 .left), ne-eqb _ _ (c .if2 .taken))
 
--- src/same.rt:180:5
 same-borders-requires : tie.Need-same-borders-requires
 same-borders-requires c κs = search needs
 
--- src/same.rt:169:1
 returns-3 : tie.Need-returns-3
 unfolding sameFrame
 returns-3 c = let t = c .before .before .before in

@@ -5,32 +5,26 @@ use Rattle.writer.proofs.same.same_header.Tie as tie
 use Rattle.writer.proofs.same.same_header.Reads as reads
 use Rattle.writer.proofs.same.same_header.Lts as lts
 
--- src/same.rt:137:9
 returns : tie.Need-returns
 unfolding sameHeader
 returns c = rw (ne-eqb _ _ (c .if1 .taken))
 
--- src/same.rt:140:9
 returns-2 : tie.Need-returns-2
 unfolding sameHeader
 returns-2 c = rw (eq-eqb _ _ (c .before .before .before .if1 .left), ne-eqb _ _ (c .if2 .taken))
 
--- src/same.rt:143:9
 returns-3 : tie.Need-returns-3
 unfolding sameHeader
 returns-3 c = rw (eq-eqb _ _ (c .before .before .before .before .before .before .if1 .left), eq-eqb _ _ (c .before .before .before .if2 .left), ne-eqb _ _ (c .if3 .taken))
 
--- src/same.rt:146:9
 returns-4 : tie.Need-returns-4
 unfolding sameHeader
 returns-4 c = rw (eq-eqb _ _ (c .before .before .before .before .before .before .before .before .before .if1 .left), eq-eqb _ _ (c .before .before .before .before .before .before .if2 .left), eq-eqb _ _ (c .before .before .before .if3 .left), ne-eqb _ _ (c .if4 .taken))
 
--- src/same.rt:149:9
 returns-5 : tie.Need-returns-5
 unfolding sameHeader
 returns-5 c = rw (eq-eqb _ _ (c .before .before .before .before .before .before .before .before .before .before .before .before .if1 .left), eq-eqb _ _ (c .before .before .before .before .before .before .before .before .before .if2 .left), eq-eqb _ _ (c .before .before .before .before .before .before .if3 .left), eq-eqb _ _ (c .before .before .before .if4 .left), ne-eqb _ _ (c .if5 .taken))
 
--- src/same.rt:133:1
 returns-6 : tie.Need-returns-6
 unfolding sameHeader
 returns-6 c = rw (eq-eqb _ _ (c .before .before .before .before .before .before .before .before .before .before .before .before .before .before .if1 .left), eq-eqb _ _ (c .before .before .before .before .before .before .before .before .before .before .before .if2 .left), eq-eqb _ _ (c .before .before .before .before .before .before .before .before .if3 .left), eq-eqb _ _ (c .before .before .before .before .before .if4 .left), eq-eqb _ _ (c .before .before .if5 .left))

@@ -21,33 +21,26 @@ Inv-loop xs ys i₀ i = SoFar sameIndex (pos 0) 34 i xs ys
 abbrev μ-loop : tie.MeasureT-loop
 μ-loop xs ys i₀ i = 34 - i
 
--- src/same.rt:20:5
 loop-holds : tie.Need-loop-holds Inv-loop μ-loop
 loop-holds c = same-start sameIndex (pos 0) 34 _ _ (search needs) (search needs)
 
--- src/same.rt:21:12
 array-copy-out-if1 : tie.Need-array-copy-out-if1 Inv-loop μ-loop
 array-copy-out-if1 c = search needs
 
--- src/same.rt:21:21
 array-copy-out-if1-2 : tie.Need-array-copy-out-if1-2 Inv-loop μ-loop
 array-copy-out-if1-2 c = search needs
 
--- src/same.rt:22:13
 returns : tie.Need-returns Inv-loop μ-loop
 returns c = let l = c .before .before .before .before .loop in
     let a = c .before .before .before .before .before .args in
     same-stop sameIndex (pos 0) (l .inv) (omega arith) (index-differs (getD (a .t1) (l .i) (pos 0)) (getD (a .t2) (l .i) (pos 0)) (λ e. c .if1 .taken (ap (ofZ w8) e)))
 
--- src/same.rt:24:9
 add-i : tie.Need-add-i Inv-loop μ-loop
 add-i c = search needs
 
--- src/same.rt:20:5
 loop-less : tie.Need-loop-less Inv-loop μ-loop
 loop-less c = search needs
 
--- src/same.rt:20:5
 loop-again : tie.Need-loop-again Inv-loop μ-loop
 loop-again c = let l = c .before .before .before .before .loop in
     let a = c .before .before .before .before .before .args in
@@ -55,7 +48,6 @@ loop-again c = let l = c .before .before .before .before .loop in
     let f : SFits w8 (getD (a .t2) (l .i) (pos 0)) = record { sfits = c .before .if13 .given } in
     same-more sameIndex (pos 0) (l .inv) (omega arith) (index-same _ _ (sym (toZ-ofZ w8 _ e) ∙ ap (toZ w8) (c .if1 .left) ∙ toZ-ofZ w8 _ f))
 
--- src/same.rt:16:1
 returns-2 : tie.Need-returns-2 Inv-loop μ-loop
 returns-2 c = same-done sameIndex (pos 0) (c .before .loop .inv) (omega arith)
 

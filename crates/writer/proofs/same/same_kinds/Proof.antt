@@ -7,19 +7,15 @@ use Rattle.writer.proofs.same.same_kinds.Reads as reads
 use Rattle.writer.proofs.same.same_kinds.Lts as lts
 use Rattle.writer.proofs.same.same_rows.Reads as same-rows-reads
 
--- src/same.rt:189:9
 same-rows-requires : tie.Need-same-rows-requires
 same-rows-requires c κs = search needs
 
--- src/same.rt:190:9
 returns : tie.Need-returns
 returns c = rw (← (c .before .same-rows .ensures), not-true (c .before .same-rows .result) (c .if1 .taken))
 
--- src/same.rt:194:5
 same-rows-requires-2 : tie.Need-same-rows-requires-2
 same-rows-requires-2 c κs = search needs
 
--- src/same.rt:184:1
 returns-2 : tie.Need-returns-2
 returns-2 c = let t = c .before .before .before in
     c .same-rows2 .ensures ∙ rw (← (t .before .same-rows .ensures), not-false (t .before .same-rows .result) (t .if1 .left))

@@ -8,21 +8,17 @@ use Rattle.writer.proofs.same.same_part.Reads as reads
 use Rattle.writer.proofs.same.same_part.Lts as lts
 use Rattle.writer.proofs.same.same_body.Reads as same-body-reads
 
--- src/same.rt:104:9
 returns : tie.Need-returns
 unfolding samePart
 returns c = rw (ne-eqb _ _ (c .if1 .taken))
 
--- src/same.rt:107:9
 returns-2 : tie.Need-returns-2
 unfolding samePart
 returns-2 c = rw (eq-eqb _ _ (c .before .before .before .if1 .left), ne-eqb _ _ (c .if2 .taken))
 
--- src/same.rt:111:5
 same-body-requires : tie.Need-same-body-requires
 same-body-requires c κs = search needs
 
--- src/same.rt:100:1
 returns-3 : tie.Need-returns-3
 unfolding samePart
 returns-3 c = let t = c .before .before .before in

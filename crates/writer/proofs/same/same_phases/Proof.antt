@@ -8,20 +8,16 @@ use Rattle.writer.proofs.same.same_phases.Reads as reads
 use Rattle.writer.proofs.same.same_phases.Lts as lts
 use Rattle.writer.proofs.same.same_row.Reads as same-row-reads
 
--- src/same.rt:63:9
 same-row-requires : tie.Need-same-row-requires
 same-row-requires c κs = search needs
 
--- src/same.rt:64:9
 returns : tie.Need-returns
 unfolding samePhases
 returns c = rw (← (c .before .same-row .ensures), not-true (c .before .same-row .result) (c .if1 .taken))
 
--- src/same.rt:68:5
 same-row-requires-2 : tie.Need-same-row-requires-2
 same-row-requires-2 c κs = search needs
 
--- src/same.rt:58:1
 returns-2 : tie.Need-returns-2
 unfolding samePhases
 returns-2 c = let t = c .before .before .before in

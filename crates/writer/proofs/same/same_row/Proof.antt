@@ -8,16 +8,13 @@ use Rattle.writer.proofs.same.same_row.Reads as reads
 use Rattle.writer.proofs.same.same_row.Lts as lts
 use Rattle.writer.proofs.same.same_indices.Reads as same-indices-reads
 
--- src/same.rt:34:9
 returns : tie.Need-returns
 unfolding sameRow
 returns c = rw (ne-eqb _ _ (c .if1 .taken))
 
--- src/same.rt:38:5
 same-indices-requires : tie.Need-same-indices-requires
 same-indices-requires c κs = search needs
 
--- src/same.rt:30:1
 returns-2 : tie.Need-returns-2
 unfolding sameRow
 returns-2 c = c .same-indices .ensures ∙ rw (eq-eqb _ _ (c .before .before .before .if1 .left))

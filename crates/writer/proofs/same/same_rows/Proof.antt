@@ -18,47 +18,36 @@ Inv-loop xs ys i₀ i = SoFar sameRow (record { time = 0; indices = [] }) 4 i xs
 abbrev μ-loop : tie.MeasureT-loop
 μ-loop xs ys i₀ i = 4 - i
 
--- src/same.rt:46:5
 loop-holds : tie.Need-loop-holds Inv-loop μ-loop
 loop-holds c = same-start sameRow (record { time = 0; indices = [] }) 4 _ _ (search needs) (search needs)
 
--- src/same.rt:47:17
 mul-x : tie.Need-mul-x Inv-loop μ-loop
 mul-x c = search needs
 
--- src/same.rt:47:17
 array-copy-out-x : tie.Need-array-copy-out-x Inv-loop μ-loop
 array-copy-out-x c = search needs
 
--- src/same.rt:48:17
 mul-y : tie.Need-mul-y Inv-loop μ-loop
 mul-y c = search needs
 
--- src/same.rt:48:17
 array-copy-out-y : tie.Need-array-copy-out-y Inv-loop μ-loop
 array-copy-out-y c = search needs
 
--- src/same.rt:49:13
 same-row-requires : tie.Need-same-row-requires Inv-loop μ-loop
 same-row-requires c κs = search needs
 
--- src/same.rt:50:13
 returns : tie.Need-returns Inv-loop μ-loop
 returns c = same-stop sameRow (record { time = 0; indices = [] }) (c .before .before .before .before .before .loop .inv) (omega arith) (sym (c .before .same-row .ensures) ∙ not-true (c .before .same-row .result) (c .if1 .taken))
 
--- src/same.rt:52:9
 add-i : tie.Need-add-i Inv-loop μ-loop
 add-i c = search needs
 
--- src/same.rt:46:5
 loop-less : tie.Need-loop-less Inv-loop μ-loop
 loop-less c = search needs
 
--- src/same.rt:46:5
 loop-again : tie.Need-loop-again Inv-loop μ-loop
 loop-again c = same-more sameRow (record { time = 0; indices = [] }) (c .before .before .before .before .before .loop .inv) (omega arith) (sym (c .before .same-row .ensures) ∙ not-false (c .before .same-row .result) (c .if1 .left))
 
--- src/same.rt:42:1
 returns-2 : tie.Need-returns-2 Inv-loop μ-loop
 returns-2 c = same-done sameRow (record { time = 0; indices = [] }) (c .before .loop .inv) (omega arith)
 

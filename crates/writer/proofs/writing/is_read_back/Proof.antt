@@ -6,28 +6,22 @@ use Rattle.writer.proofs.writing.is_read_back.Lts as lts
 use Rattle.stereo.proofs.payloads.read_payload.Reads as read-payload-reads
 use Rattle.writer.proofs.same.same_contents.Reads as same-contents-reads
 
--- src/writing.rt:42:9
 read-payload-requires : tie.Need-read-payload-requires
 read-payload-requires c κs = search needs
 
--- src/writing.rt:46:25
 enum-told : tie.Need-enum-told
 enum-told c = search needs
 
--- src/writing.rt:46:25
 same-contents-requires : tie.Need-same-contents-requires
 same-contents-requires c κs = search needs
 
--- src/writing.rt:47:33
 enum-told-2 : tie.Need-enum-told-2
 enum-told-2 c = search needs
 
--- src/writing.rt:38:1
 returns : tie.Need-returns
 returns c = let r = c .before .before .before .before in
     rw (← (r .read-payload .ensures), c .before .enum-told .given .1) (c .same-contents .ensures)
 
--- src/writing.rt:38:1
 returns-2 : tie.Need-returns-2
 returns-2 c = let r = c .before .before .before in
     rw (← (r .read-payload .ensures), c .enum-told2 .given .1)

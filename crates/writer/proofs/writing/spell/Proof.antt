@@ -18,49 +18,39 @@ use Rattle.tables.proofs.lens.Reads as lens-reads
 use Rattle.writer.proofs.payloads.put_contents.Reads as put-contents-reads
 use Rattle.writer.proofs.writing.is_read_back.Reads as is-read-back-reads
 
--- src/writing.rt:64:17
 codes-requires : tie.Need-codes-requires
 codes-requires c κs = search needs
 
--- src/writing.rt:65:16
 lens-requires : tie.Need-lens-requires
 lens-requires c κs = search needs
 
--- src/writing.rt:66:55
 slice-aggregate-put-contents : tie.Need-slice-aggregate-put-contents
 slice-aggregate-put-contents c = search needs
 
--- src/writing.rt:66:63
 slice-aggregate-put-contents-2 : tie.Need-slice-aggregate-put-contents-2
 slice-aggregate-put-contents-2 c = search needs
 
--- src/writing.rt:66:9
 put-contents-requires : tie.Need-put-contents-requires
 put-contents-requires c κs = (
   record { size = ap length (c .before .before .before .before .before .before .pre) ∙ length-replicate {A = ℕ} 1536 0; left = omega arith },
   (c .before .before .before .before .codes .ensures, c .before .before .before .lens .ensures),
 )
 
--- src/writing.rt:67:60
 slice-aggregate-is-read-back : tie.Need-slice-aggregate-is-read-back
 slice-aggregate-is-read-back c = search needs
 
--- src/writing.rt:67:68
 slice-aggregate-is-read-back-2 : tie.Need-slice-aggregate-is-read-back-2
 slice-aggregate-is-read-back-2 c = search needs
 
--- src/writing.rt:67:9
 is-read-back-requires : tie.Need-is-read-back-requires
 is-read-back-requires c κs = let p = c .before .before .before .before .before .put-contents .ensures in
     let a = c .before .before .before .before .before .before .before .before .before .before .before .before in
     let l = wrote-length p ∙ ap length (a .pre) ∙ length-replicate {A = ℕ} 1536 0 in
     (omega (arith, p .ends, p .short, l), (c .before .before .before .before .before .before .before .before .before .before .codes .ensures, c .before .before .before .before .before .before .before .before .before .lens .ensures))
 
--- src/writing.rt:60:1
 same-length : tie.Need-same-length
 same-length c = search needs
 
--- src/writing.rt:60:1
 returns : tie.Need-returns
 returns c = let p = c .before .before .before .before .before .before .put-contents .ensures in
     let a = c .before .before .before .before .before .before .before .before .before .before .before .before .before in

@@ -23,85 +23,66 @@ use Rattle.writer.proofs.writing.bytes_for.Reads as bytes-for-reads
 use Rattle.writer.proofs.writing.refused.Reads as refused-reads
 use Rattle.writer.proofs.writing.spell.Reads as spell-reads
 
--- src/writing.rt:75:9
 is-sound-requires : tie.Need-is-sound-requires
 is-sound-requires c κs = search needs
 
--- src/writing.rt:76:9
 refused-requires : tie.Need-refused-requires
 refused-requires c κs = search needs
 
--- src/writing.rt:76:9
 returns : tie.Need-returns
 unfolding writing writtenOver
 returns c = (c .refused .ensures ∙ rw (← (c .before .before .is-sound .ensures), not-true (c .before .before .is-sound .result) (c .before .if1 .taken)), rw (c .refused .ensures))
 
--- src/writing.rt:78:9
 read-from-requires : tie.Need-read-from-requires
 read-from-requires c κs = search needs
 
--- src/writing.rt:80:25
 slice-aggregate-spell : tie.Need-slice-aggregate-spell
 slice-aggregate-spell c = search needs
 
--- src/writing.rt:80:9
 spell-requires : tie.Need-spell-requires
 spell-requires c κs = search needs
 
--- src/writing.rt:82:9
 refused-requires-2 : tie.Need-refused-requires-2
 refused-requires-2 c κs = search needs
 
--- src/writing.rt:82:9
 returns-2 : tie.Need-returns-2
 unfolding writing writtenOver
 returns-2 c = (c .refused2 .ensures ∙ rw (← (c .before .before .before .before .before .before .before .before .is-sound .ensures), not-false (c .before .before .before .before .before .before .before .before .is-sound .result) (c .before .before .before .before .before .before .before .if1 .left), ← (c .before .before .before .before .before .before .read-from .ensures), ← (c .before .before .before .before .spell .ensures .2), not-true (c .before .before .before .before .spell .result .can) (c .before .if2 .taken)), rw (c .refused2 .ensures))
 
--- src/writing.rt:84:9
 is-accepted-requires : tie.Need-is-accepted-requires
 is-accepted-requires c κs = search needs
 
--- src/writing.rt:85:9
 refused-requires-3 : tie.Need-refused-requires-3
 refused-requires-3 c κs = search needs
 
--- src/writing.rt:85:9
 returns-3 : tie.Need-returns-3
 unfolding writing writtenOver
 returns-3 c = (c .refused3 .ensures ∙ rw (← (c .before .before .before .before .before .before .before .before .before .before .is-sound .ensures), not-false (c .before .before .before .before .before .before .before .before .before .before .is-sound .result) (c .before .before .before .before .before .before .before .before .before .if1 .left), ← (c .before .before .before .before .before .before .before .before .read-from .ensures), ← (c .before .before .before .before .before .before .spell .ensures .2), not-false (c .before .before .before .before .before .before .spell .result .can) (c .before .before .before .if2 .left), ← (c .before .before .is-accepted .ensures), not-true (c .before .before .is-accepted .result) (c .before .if3 .taken)), rw (c .refused3 .ensures))
 
--- src/writing.rt:88:9
 bytes-for-requires : tie.Need-bytes-for-requires
 bytes-for-requires c κs = search needs
 
--- src/writing.rt:90:9
 refused-requires-4 : tie.Need-refused-requires-4
 refused-requires-4 c κs = search needs
 
--- src/writing.rt:90:9
 returns-4 : tie.Need-returns-4
 unfolding writing writtenOver
 returns-4 c = let e : leb (bytesFor (total (spelling (c .before .before .before .before .before .before .before .before .before .before .read-from .result) (c .before .before .before .before .before .before .before .before .before .before .before .before .before .before .args .contents)))) (length (c .before .before .before .before .before .before .before .before .before .before .before .before .before .before .args .out .now)) ≡ false =
     rw (← (c .before .before .before .before .before .before .before .before .spell .ensures .0), ← (c .before .before .bytes-for .ensures)) (lt-leb _ _ (c .before .if4 .taken)) in
     (c .refused4 .ensures ∙ rw (← (c .before .before .before .before .before .before .before .before .before .before .before .before .is-sound .ensures), not-false (c .before .before .before .before .before .before .before .before .before .before .before .before .is-sound .result) (c .before .before .before .before .before .before .before .before .before .before .before .if1 .left), ← (c .before .before .before .before .before .before .before .before .before .before .read-from .ensures), ← (c .before .before .before .before .before .before .before .before .spell .ensures .2), not-false (c .before .before .before .before .before .before .before .before .spell .result .can) (c .before .before .before .before .before .if2 .left), ← (c .before .before .before .before .is-accepted .ensures), not-false (c .before .before .before .before .is-accepted .result) (c .before .before .before .if3 .left), e), rw (c .refused4 .ensures))
 
--- src/writing.rt:92:19
 slice-aggregate-copy-out : tie.Need-slice-aggregate-copy-out
 slice-aggregate-copy-out c = search needs
 
--- src/writing.rt:92:5
 copy-out-requires : tie.Need-copy-out-requires
 copy-out-requires c κs = search needs
 
--- src/writing.rt:93:9
 carried-requires : tie.Need-carried-requires
 carried-requires c κs = search needs
 
--- src/writing.rt:72:1
 same-length : tie.Need-same-length
 same-length c = search needs
 
--- src/writing.rt:72:1
 returns-5 : tie.Need-returns-5
 unfolding writing writtenOver
 returns-5 c = let e : leb (bytesFor (total (spelling (c .before .before .before .before .before .before .before .before .before .before .before .before .before .before .before .read-from .result) (c .before .before .before .before .before .before .before .before .before .before .before .before .before .before .before .before .before .before .before .args .contents)))) (length (c .before .before .before .before .before .before .before .before .before .before .before .before .before .before .before .before .before .before .before .args .out .now)) ≡ true =

@@ -1,4 +1,4 @@
-// What a channel stream holds.
+// A channel payload, printed.
 ghost use Prim.Native.Nat.{_≤_};
 ghost use lib.ListN.{length};
 use channel::Reading;
@@ -16,7 +16,7 @@ fn places(groups: u8, bands: u8) -> usize {
 }
 
 // The numbers of a channel stream that was read.
-fn dump_numbers(r: Reading, lines: &[i16], factors: &[u8], books: &[u8]) {
+fn print_numbers(r: Reading, lines: &[i16], factors: &[u8], books: &[u8]) {
     let groups = r.groups;
     let n = places(r.group_count, r.max_sfb);
     rows::say_window(
@@ -31,14 +31,16 @@ fn dump_numbers(r: Reading, lines: &[i16], factors: &[u8], books: &[u8]) {
     rows::say_values(lines);
 }
 
-// A channel stream that was read: its line and its numbers.
-fn dump_read(k: usize, r: Reading, lines: &[i16], factors: &[u8], books: &[u8]) {
+// A channel stream that was read: its line, and in full its numbers.
+fn print_read(k: usize, r: Reading, lines: &[i16], factors: &[u8], books: &[u8], full: bool) {
     listing::say_channel(k, r.gain, lines, r.bits);
-    dump_numbers(r, lines, factors, books);
+    if full {
+        print_numbers(r, lines, factors, books);
+    }
 }
 
 // A channel payload.
-pub fn dump_channel(k: usize, bytes: &[u8], index: u8)
+pub fn print_channel(k: usize, bytes: &[u8], index: u8, full: bool)
     requires { ⌜ length (now bytes) ≤ 65535 ⌝ }
 {
     let mut lines = [0i16; 1024];
@@ -50,5 +52,5 @@ pub fn dump_channel(k: usize, bytes: &[u8], index: u8)
         listing::say_refused(k, b"channel", r.number);
         return;
     }
-    dump_read(k, r, &lines, &factors, &books);
+    print_read(k, r, &lines, &factors, &books, full);
 }

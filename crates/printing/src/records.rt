@@ -4,7 +4,7 @@ use listing::rows;
 use stereo::State;
 
 // A flag as a number.
-pub fn bit(on: bool) -> u8 {
+fn bit(on: bool) -> u8 {
     if on {
         return 1;
     }
@@ -12,7 +12,7 @@ pub fn bit(on: bool) -> u8 {
 }
 
 // A kind's record; mode 7 is none.
-fn dump_record(words: &[u8], none: &[u8], held: Held) {
+fn print_record(words: &[u8], none: &[u8], held: Held) {
     let indices = held.indices;
     if held.mode == 7 {
         rows::say_words(none);
@@ -22,7 +22,7 @@ fn dump_record(words: &[u8], none: &[u8], held: Held) {
 }
 
 // The set-up, the mark, and the four records.
-pub fn dump_state(state: State) {
+pub fn print_state(state: State) {
     let setup = state.setup;
     let enabled = [bit(setup.iid), bit(setup.icc), bit(setup.ext)];
     rows::say_state(
@@ -32,11 +32,11 @@ pub fn dump_state(state: State) {
         bit(state.instep) as u32,
     );
     let iid = state.iid;
-    dump_record(b"  record iid", b"  record iid -", iid);
+    print_record(b"  record iid", b"  record iid -", iid);
     let icc = state.icc;
-    dump_record(b"  record icc", b"  record icc -", icc);
+    print_record(b"  record icc", b"  record icc -", icc);
     let ipd = state.ipd;
-    dump_record(b"  record ipd", b"  record ipd -", ipd);
+    print_record(b"  record ipd", b"  record ipd -", ipd);
     let opd = state.opd;
-    dump_record(b"  record opd", b"  record opd -", opd);
+    print_record(b"  record opd", b"  record opd -", opd);
 }

@@ -1,4 +1,4 @@
-// What a stereo payload holds.
+// A stereo payload, printed.
 ghost use Prim.Native.Nat.{_<_};
 use crate::records;
 use differences::Row;
@@ -11,7 +11,7 @@ use stereo::State;
 use stereo::readings;
 
 // The header.
-fn dump_header(h: Header) {
+fn print_header(h: Header) {
     if h.there == 1 {
         rows::say_header(h.iid == 1, h.iidmode, h.icc == 1, h.iccmode, h.ext);
         return;
@@ -28,7 +28,7 @@ fn small(border: u32) -> u8 {
 }
 
 // The frame class and the borders, which are sent where they are variable.
-fn dump_frame(f: Frame) {
+fn print_frame(f: Frame) {
     let bs = f.borders;
     let borders = [small(bs[0]), small(bs[1]), small(bs[2]), small(bs[3])];
     if f.class == 1 {
@@ -39,13 +39,13 @@ fn dump_frame(f: Frame) {
 }
 
 // A row's indices.
-fn dump_row(words: &[u8], row: Row) {
+fn print_row(words: &[u8], row: Row) {
     let indices = row.indices;
     rows::say_indices(words, &indices);
 }
 
 // The four rows of an envelope.
-fn dump_envelope(e: usize, state: State, contents: Contents)
+fn print_envelope(e: usize, state: State, contents: Contents)
     requires { ⌜ e < 4 ⌝ }
 {
     let setup = state.setup;
@@ -66,10 +66,10 @@ fn dump_envelope(e: usize, state: State, contents: Contents)
         [setup.iid, setup.icc, phase, phase],
         [a.time, b.time, c.time, d.time],
     );
-    dump_row(b"  iid", a);
-    dump_row(b"  icc", b);
-    dump_row(b"  ipd", c);
-    dump_row(b"  opd", d);
+    print_row(b"  iid", a);
+    print_row(b"  icc", b);
+    print_row(b"  ipd", c);
+    print_row(b"  opd", d);
 }
 
 // The size that an extension announces.
@@ -84,7 +84,7 @@ fn announced(size: u32, esc: u32) -> u32 {
 }
 
 // The extension.
-fn dump_extension(x: Extension) {
+fn print_extension(x: Extension) {
     if x.there != 1 {
         rows::say_words(b"  extension -");
         return;
@@ -99,35 +99,43 @@ fn dump_extension(x: Extension) {
 }
 
 // The contents, with the state after them.
-fn dump_contents(contents: Contents, state: State) {
+fn print_contents(contents: Contents, state: State) {
     let header = contents.header;
-    dump_header(header);
+    print_header(header);
     let frame = contents.frame;
-    dump_frame(frame);
+    print_frame(frame);
     let mut e = 0;
     while e < 4 {
         if e < frame.envelopes {
-            dump_envelope(e, state, contents);
+            print_envelope(e, state, contents);
         }
         e += 1;
     }
     let extension = contents.extension;
-    dump_extension(extension);
+    print_extension(extension);
 }
 
-// A stereo payload, its numbers and the state after it.
-pub fn dump_stereo(k: usize, state: State, bytes: &[u8]) -> State {
+// A stereo payload that was read: its line, and in full its contents.
+fn print_read(k: usize, contents: Contents, bits: usize, state: State, full: bool) {
+    let frame = contents.frame;
+    listing::say_stereo(k, frame.envelopes, bits);
+    if full {
+        print_contents(contents, state);
+    }
+}
+
+// A stereo payload, and in full the state after it, which comes back.
+pub fn print_stereo(k: usize, state: State, bytes: &[u8], full: bool) -> State {
     let r = readings::read(state, bytes, 0, bytes.len());
     let next = r.state;
     if r.number != 0 {
         listing::say_refused(k, b"stereo", r.number);
-        records::dump_state(next);
-        return next;
+    } else {
+        let contents = r.contents;
+        print_read(k, contents, r.bits, next, full);
     }
-    let contents = r.contents;
-    let frame = contents.frame;
-    listing::say_stereo(k, frame.envelopes, r.bits);
-    dump_contents(contents, next);
-    records::dump_state(next);
+    if full {
+        records::print_state(next);
+    }
     next
 }
