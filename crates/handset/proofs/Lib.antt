@@ -1,0 +1,4 @@
+pub mod CallLaws
+pub mod ChannelLaws
+pub mod StereoLaws
+pub mod WriteLaws

@@ -1,0 +1,3 @@
+pub mod EnvelopeLaws
+pub mod OverLaws
+pub mod Turn
