@@ -1,3 +1,4 @@
+pub mod CallLaws
 pub mod EnvelopeLaws
 pub mod OverLaws
 pub mod Turn

@@ -1,3 +1,4 @@
 pub mod Bytes
 pub mod StateBytes
 pub mod ContentsBytes
+pub mod Calls

@@ -1,4 +1,5 @@
 // The stereo state and a payload's contents as bytes, for a program in another language.
 pub mod answers;
 pub mod bytes;
+pub mod calls;
 pub mod states;

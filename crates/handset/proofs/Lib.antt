@@ -1,4 +1,0 @@
-pub mod CallLaws
-pub mod ChannelLaws
-pub mod StereoLaws
-pub mod WriteLaws

@@ -1,0 +1,35 @@
+use mathlib.Core.Path.{_∙_}
+use native.Mathlib.Omega.{arith}
+use lib.ListN.{length}
+use borrow.Author.Tests.{le-leb, lt-leb}
+use borrow.Author.Needs.{needs}
+use Rattle.handset_stereo.proofs.oarcradler_fresh_state.Statement.{statement}
+use Rattle.handset_stereo.proofs.oarcradler_fresh_state.Tie as tie
+use Rattle.handset_stereo.proofs.oarcradler_fresh_state.Reads as reads
+use Rattle.handset_stereo.proofs.oarcradler_fresh_state.Lts as lts
+use Rattle.layout.proofs.states.put_state.Reads as put-state-reads
+use Rattle.stereo.proofs.states.fresh.Reads as fresh-reads
+
+returns : tie.Need-returns
+returns c =
+    let no = lt-leb 146 _ (c .if1 .taken) in
+    (rw no, rw no)
+
+fresh-requires : tie.Need-fresh-requires
+fresh-requires c κs = search needs
+
+put-state-requires : tie.Need-put-state-requires
+put-state-requires c κs = search needs
+
+same-length : tie.Need-same-length
+same-length c = search needs
+
+returns-2 : tie.Need-returns-2
+returns-2 c =
+    let s = c .before .before .before .before .before .before .before .args .state .now in
+    let room = le-leb 146 (length s) (omega arith) in
+    (rw room, rw room (c .before .before .put-state .ensures ∙ rw (c .before .before .before .fresh .ensures)))
+
+pub oarcradler-fresh-state-spec : {M : Type 1} → statement M
+oarcradler-fresh-state-spec =
+    tie.close (tie.spec returns fresh-requires put-state-requires same-length returns-2)

@@ -1,0 +1,37 @@
+use mathlib.Core.Path.{refl, sym, _∙_}
+use native.Mathlib.Omega.{arith}
+use borrow.Author.Tests.{not-true, not-false}
+use Rattle.layout.proofs.CallLaws.{sound-long}
+use borrow.Author.Needs.{needs}
+use Rattle.handset_stereo.proofs.oarcradler_report_missing.Statement.{statement}
+use Rattle.handset_stereo.proofs.oarcradler_report_missing.Tie as tie
+use Rattle.handset_stereo.proofs.oarcradler_report_missing.Reads as reads
+use Rattle.handset_stereo.proofs.oarcradler_report_missing.Lts as lts
+use Rattle.layout.proofs.states.is_sound_at.Reads as is-sound-at-reads
+
+is-sound-at-requires : tie.Need-is-sound-at-requires
+is-sound-at-requires c κs = search needs
+
+same-length : tie.Need-same-length
+same-length c = search needs
+
+returns : tie.Need-returns
+returns c =
+    let no = sym (c .before .is-sound-at .ensures) ∙ not-true _ (c .if1 .taken) in
+    (rw no, rw no)
+
+slice-write-state : tie.Need-slice-write-state
+slice-write-state c = omega (arith, sound-long _ (sym (c .before .is-sound-at .ensures) ∙ not-false _ (c .if1 .left)))
+
+same-length-2 : tie.Need-same-length-2
+same-length-2 c = search needs
+
+returns-2 : tie.Need-returns-2
+returns-2 c =
+    let yes = sym (c .before .is-sound-at .ensures) ∙ not-false _ (c .if1 .left) in
+    (rw yes, rw yes)
+
+pub oarcradler-report-missing-spec : {M : Type 1} → statement M
+oarcradler-report-missing-spec =
+    tie.close
+    (tie.spec is-sound-at-requires same-length returns slice-write-state same-length-2 returns-2)

@@ -1,0 +1,2 @@
+pub mod StateCalls
+pub mod ReadStereo

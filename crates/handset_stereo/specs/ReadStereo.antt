@@ -1,0 +1,40 @@
+-- A stereo payload in a range of a buffer, read from the state that bytes stand for.
+use Prim.Native.Nat.{ℕ}
+use mathlib.Core.List.{List}
+use lib.Dec.{eqb}
+use lib.ListN.{length}
+use Rattle.bits.specs.Reader.{pick}
+use Rattle.stereo.specs.Stereo.{readFrom}
+use Rattle.stereo.specs.declared.Reading.{Reading}
+use Rattle.layout.specs.Bytes.{over}
+use Rattle.layout.specs.StateBytes.{stateBytes, stateAt, soundBytes}
+use Rattle.layout.specs.ContentsBytes.{answerBytes}
+use Rattle.layout.specs.Calls.{judged, answered}
+use Rattle.handset_stereo.specs.StateCalls.{lostBytes}
+
+-- what is judged before any bit: 1, 2, 4; 0 where all is well
+unfoldable pub stereoJudged : List ℕ → ℕ → ℕ → ℕ → ℕ → ℕ
+stereoJudged s size start end room =
+    pick (eqb (judged size start end 582 room) 0) (pick (soundBytes s) 0 4) (judged size start end 582 room)
+
+-- the reader's own reading
+abbrev pub stereoReading : List ℕ → List ℕ → ℕ → ℕ → Reading
+stereoReading s buf start end = readFrom (stateAt s) buf start end
+
+-- the number that comes back
+unfoldable pub stereoNumber : List ℕ → List ℕ → ℕ → ℕ → ℕ → ℕ
+stereoNumber s buf start end room =
+    pick (eqb (stereoJudged s (length buf) start end room) 0) (stereoReading s buf start end .number) (stereoJudged s (length buf) start end room)
+
+-- the state afterwards: the next one where the payload is accepted; the mark out of step and no other byte touched where the payload is
+-- refused; untouched where the call is
+unfoldable pub stereoStateAfter : List ℕ → List ℕ → ℕ → ℕ → ℕ → List ℕ
+stereoStateAfter s buf start end room =
+    pick (eqb (stereoJudged s (length buf) start end room) 0)
+    (pick (eqb (stereoReading s buf start end .number) 0) (over s 0 (stateBytes (stereoReading s buf start end .state))) (lostBytes s))
+    s
+
+-- the answer afterwards
+unfoldable pub stereoAnswerAfter : List ℕ → List ℕ → ℕ → ℕ → List ℕ → List ℕ
+stereoAnswerAfter s buf start end answer =
+    answered (stereoNumber s buf start end (length answer)) (answerBytes (stereoReading s buf start end .bits) (stereoReading s buf start end .contents)) answer
