@@ -1,1 +1,2 @@
-mod Lending
+mod Borrow
+mod Locals
