@@ -148,13 +148,13 @@ module _ {M : Type 1} (𝓤 : URA M) (H : Heap 𝓤) (A : Atoms 𝓤) (W : Given
         -- [obs; the borrow; its token; what bytes owns; bytes' token]
         enter ! C Λ code.function (vptr b o ∷ u ∷ vint w64 i ∷ vint w64 j ∷ []) _ $
         enters (tt, tt) (shr-slice-lawful 𝓤 H A W (named 1) κ′ u8 .typed s (u ∷ []) p .0) (tt, record { fits = i-fits }) (tt, record { fits = j-fits }) (λ l₀ l₁ l₂ l₃ l₄ l₅ l₆.
-        move ! (14 ∷ 15 ∷ 16 ∷ []) $ opened tt b o h (λ was.
-        -- [the state's cell; the open borrow; obs; auth; room for _6; …; room for _5; …; _4; …; _3; …; _2; …; _1; …; room for _0; …; what bytes owns; bytes' token]
-        copies (state-fits 𝓤 H A W h was) $ move ! (18 ∷ 19 ∷ []) $ use2 W (raw (Step 𝓤 H A at-mem run .pre to) ⊛ ‵ Own) (apart was) $ split ! $
+        opened tt b o h (λ was.
+        -- [the state's cell; the open borrow; obs; auth; what bytes owns; bytes' token; room for _6; …; room for _5; …; _4; …; _3; …; _2; …; _1; …; room for _0; …]
+        copies (state-fits 𝓤 H A W h was) (apart was) $
         calls-at ! fm (Step 𝓤 H A at-mem run) known to passes (λ v. answered tt v (λ r is e.
         -- [bytes' token; what bytes owns; the state's cell; the open borrow; obs; auth; _6; …; room for _5; …; _4; …; _3; …; _2; …; _1; …; room for _0; …]
         stores (both-is r v is) (LL.lawful R.the-type R′.the-laws 𝓤 H A W .typed r _ is .0) (state-fits 𝓤 H A W (r .state) (state-is r v is)) (LL.lawful K.the-type K′.the-laws 𝓤 H A W .typed (r .answer) _ (answer-is r v is) .0) $
-        move ! (2 ∷ 3 ∷ 4 ∷ 5 ∷ []) $ closed tt b o (r .state) h (state-is r v is) $
+        closed tt b o (r .state) h (state-is r v is) $
         -- [obs; the borrow; its token; bytes' token; what bytes owns; _6; …; _5; …; _4; …; _3; …; _2; …; _1; …; _0; …]
         leaves $ by ! (exits r v is e)))))
 
