@@ -18,6 +18,8 @@ use Rattle.stereo.specs.declared.Reading.{Reading}
 use Rattle.stereo.specs.declared.Report.{Report}
 use Rattle.writer.specs.Writing.{writing, writtenOver}
 use Rattle.writer.specs.declared.Written.{Written}
+use Rattle.lent.specs.Lent.{answerOf}
+use Rattle.lent.specs.declared.Answer.{Answer}
 
 module _ (st : State) where
   pub one-fresh : (r r′ : State) → r ≡ fresh → r′ ≡ fresh → r ≡ r′
@@ -39,6 +41,16 @@ module _ (st : State) where
   one-writing c before after after′ r r′ p q =
       let e = p .0 ∙ sym (q .0) in
       (e, p .1 ∙ ap (λ (w : Written). writtenOver w st c before) e ∙ sym (q .1))
+
+  -- the answer, and the lent state afterwards
+  pub one-lent-reading : (bytes : List ℕ) (start end : ℕ) (r r′ : Answer) (after after′ : State)
+      → (r ≡ answerOf (readFrom st bytes start end)) × (after ≡ readFrom st bytes start end .state) → (r′ ≡ answerOf (readFrom st bytes start end)) × (after′ ≡ readFrom st bytes start end .state)
+      → (r ≡ r′) × (after ≡ after′)
+  one-lent-reading bytes start end r r′ after after′ p q = (p .0 ∙ sym (q .0), p .1 ∙ sym (q .1))
+
+  pub one-lent-report : (r r′ : ℕ) (after after′ : State) → (r ≡ missing st .number) × (after ≡ missing st .state) → (r′ ≡ missing st .number) × (after′ ≡ missing st .state)
+      → (r ≡ r′) × (after ≡ after′)
+  one-lent-report r r′ after after′ p q = (p .0 ∙ sym (q .0), p .1 ∙ sym (q .1))
 
 -- of a tag image
 pub one-header : (image : List ℕ) (r r′ : Header) → r ≡ headerOf image → r′ ≡ headerOf image → r ≡ r′

@@ -1,0 +1,2 @@
+mod Borrow
+mod Locals
