@@ -31,7 +31,7 @@ pub extern "C" fn oarcradler_read_header(image: &[u8], answer: &mut [u8]) -> u32
     if header.number != 0 {
         return header.number as u32;
     }
-    put_words(answer, header.count, header.index);
+    put_words(answer, header.count, header.index as usize);
     0
 }
 

@@ -1,11 +1,12 @@
 -- Bytes put over others: the length stays, and what is put right after makes one longer run.
 -- Assumes nothing.
-use Prim.Native.Nat.{ℕ, _+_, _≤_}
+use Prim.Native.Nat.{ℕ, suc, _+_, _≤_, _<_}
 use mathlib.Core.Path.{_≡_, refl, sym, ap, _∙_}
 use mathlib.Core.List.{List, [], _∷_, _++_, append-assoc, append-nil}
 use native.Mathlib.Omega.{arith}
-use lib.ListN.{length, take, drop, replicate, length-append}
-use lib.Seq.{paste, paste-zero, length-paste, take-all, take-at, drop-append-add, drop-drop, length-take-le}
+use native.Mathlib.Numerals.{add-one}
+use lib.ListN.{length, take, drop, set, replicate, length-append}
+use lib.Seq.{paste, paste-zero, length-paste, take-all, take-at, drop-append-add, drop-drop, length-take-le, set-split, append-snoc}
 use Rattle.layout.specs.Bytes.{over}
 
 -- a whole copy is what was put over
@@ -43,6 +44,11 @@ Put s at xs n t = (t ≡ over s at xs) × (length xs ≡ n)
 pub put-none : (s : List ℕ) (at : ℕ) → Put s at [] 0 s
 unfolding over
 put-none s at = (paste-zero s at [], refl)
+
+-- a store puts one
+pub put-one : (s : List ℕ) (at x : ℕ) → at < length s → Put s at (x ∷ []) 1 (set s at x)
+unfolding over
+put-one s at x h = (set-split s at x h ∙ rw (add-one, append-snoc (take at s) x (drop (suc at) s)), refl)
 
 -- what is put right after n bytes makes one longer run
 pub put-next : {t u : List ℕ} (s : List ℕ) (at : ℕ) (xs : List ℕ) (n : ℕ) (ys : List ℕ) (m : ℕ) → Put s at xs n t → Put t (at + n) ys m u → at + (n + m) ≤ length s

@@ -1,6 +1,4 @@
 // What the programs print of a tag image: the lines of the listing, and rows of numbers for the dump.
-ghost use Prim.Native.Nat.{_≤_};
-ghost use lib.ListN.{length};
 
 pub mod rows;
 mod text;
@@ -21,36 +19,21 @@ pub fn say_count(count: usize) {
     text::say(&mut line, at);
 }
 
-// How many lines are not 0.
-fn count_set(lines: &[i16]) -> usize
-    ensures { λ r. ⌜ r ≤ length (now (lines .entry)) ⌝ }
-{
-    let mut n: usize = 0;
-    let mut i = 0;
-    while i < lines.len() {
-        if lines[i] != 0 {
-            n += 1;
-        }
-        i += 1;
-    }
-    n
-}
-
 // The line of a channel stream: its gain, its non-zero lines, and the bits used.
-pub fn say_channel(k: usize, gain: u8, lines: &[i16], bits: usize) {
+fn say_channel(k: usize, gain: usize, lines: usize, bits: usize) {
     let mut line = [0u8; 96];
     let at = text::put_number(&mut line, 0, k as u64);
     let at = text::put(&mut line, at, b" channel gain");
     let at = text::put_next(&mut line, at, gain as u64);
     let at = text::put(&mut line, at, b" lines");
-    let at = text::put_next(&mut line, at, count_set(lines) as u64);
+    let at = text::put_next(&mut line, at, lines as u64);
     let at = text::put(&mut line, at, b" bits");
     let at = text::put_next(&mut line, at, bits as u64);
     text::say(&mut line, at);
 }
 
 // The line of a stereo payload: its envelopes, and the bits used.
-pub fn say_stereo(k: usize, envelopes: usize, bits: usize) {
+fn say_stereo(k: usize, envelopes: usize, bits: usize) {
     let mut line = [0u8; 96];
     let at = text::put_number(&mut line, 0, k as u64);
     let at = text::put(&mut line, at, b" stereo envelopes");
@@ -61,7 +44,7 @@ pub fn say_stereo(k: usize, envelopes: usize, bits: usize) {
 }
 
 // The line of a payload that was refused.
-pub fn say_refused(k: usize, what: &[u8], number: u8) {
+fn say_refused(k: usize, what: &[u8], number: usize) {
     let mut line = [0u8; 64];
     let at = text::put_number(&mut line, 0, k as u64);
     let at = text::put(&mut line, at, b" ");
@@ -69,4 +52,21 @@ pub fn say_refused(k: usize, what: &[u8], number: u8) {
     let at = text::put(&mut line, at, b" refused");
     let at = text::put_next(&mut line, at, number as u64);
     text::say(&mut line, at);
+}
+
+// The line of a payload, from its four numbers: the refusal, or 0 and what it holds.
+pub fn say_payload(k: usize, number: usize, first: usize, second: usize, bits: usize) {
+    if k % 2 == 0 {
+        if number != 0 {
+            say_refused(k, b"channel", number);
+            return;
+        }
+        say_channel(k, first, second, bits);
+        return;
+    }
+    if number != 0 {
+        say_refused(k, b"stereo", number);
+        return;
+    }
+    say_stereo(k, first, bits);
 }

@@ -1,35 +1,37 @@
 // A tag image on standard input, printed: the line of each payload, and in full what it holds and the stereo state after it.
 ghost use Prim.Native.Nat.{_≤_};
 ghost use lib.ListN.{length};
+use details::channels;
+use details::contents;
+use stereo::State;
 use stereo::states;
 
-mod channels;
-mod contents;
-mod records;
-
-// An index as the channel reader takes it; what is too large is no index.
-fn narrow(index: usize) -> u8 {
-    if index < 256 {
-        return index as u8;
+// What the k-th payload holds, from the state before it; the state after it comes back.
+fn print_details(image: &[u8], k: usize, index: u8, state: State) -> State
+    requires { ⌜ length (now image) ≤ 65535 ⌝ }
+{
+    let part = tag::part_of(image, k);
+    let start = part.start;
+    let end = part.end;
+    let bytes = &image[start..end];
+    if k % 2 == 0 {
+        channels::print_channel(bytes, index);
+        return state;
     }
-    0
+    contents::print_stereo(state, bytes)
 }
 
-// The payloads of an image, in their order, each as its own part.
-fn print_payloads(image: &[u8], count: usize, index: u8, full: bool)
-    requires { ⌜ length (now image) ≤ 65535 ⌝ }
+// The payloads of an image that has this outline, in their order.
+fn print_payloads(image: &[u8], count: usize, index: u8, rows: &[usize], full: bool)
+    requires { ⌜ (length (now image) ≤ 65535) × (count ≤ 1024) × (4096 ≤ length (now rows)) ⌝ }
 {
     let mut state = states::fresh();
     let mut k = 0;
     while k < count {
-        let part = tag::part_of(image, k);
-        let start = part.start;
-        let end = part.end;
-        let bytes = &image[start..end];
-        if k % 2 == 0 {
-            channels::print_channel(k, bytes, index, full);
-        } else {
-            state = contents::print_stereo(k, state, bytes, full);
+        let at = 4 * k;
+        listing::say_payload(k, rows[at], rows[at + 1], rows[at + 2], rows[at + 3]);
+        if full {
+            state = print_details(image, k, index, state);
         }
         k += 1;
     }
@@ -39,13 +41,14 @@ fn print_payloads(image: &[u8], count: usize, index: u8, full: bool)
 fn print_image(image: &[u8], full: bool)
     requires { ⌜ length (now image) ≤ 65535 ⌝ }
 {
-    let header = tag::read_header(image);
+    let mut rows = [0usize; 4096];
+    let header = outline::read_image(image, &mut rows);
     if header.number != 0 {
         listing::say_refused_image(header.number);
         return;
     }
     listing::say_count(header.count);
-    print_payloads(image, header.count, narrow(header.index), full);
+    print_payloads(image, header.count, header.index, &rows, full);
 }
 
 // The image on standard input; one that fills the buffer is too long.

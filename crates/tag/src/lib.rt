@@ -8,7 +8,7 @@ ghost use Rattle.tag.specs.Image.{pairAt, rising, soundImage, knownIndex
 pub struct Header {
     pub number: u8,
     pub count: usize,
-    pub index: usize,
+    pub index: u8,
 }
 
 // Where a payload stands in an image: a refusal's number, or 0 with its range of bytes.
@@ -115,7 +115,7 @@ pub fn read_header(image: &[u8]) -> Header
     Header {
         number: 0,
         count: pair_at(image, 0),
-        index,
+        index: index as u8,
     }
 }
 

@@ -1,19 +1,18 @@
-use Prim.Native.Nat.{_≤_, _-_}
+use Prim.Native.Nat.{_-_, _≤_}
 use borrow.Author.Needs.{needs}
 use Rattle.printing.proofs.print_payloads.Statement.{statement}
 use Rattle.printing.proofs.print_payloads.Tie as tie
 use Rattle.printing.proofs.print_payloads.Reads as reads
 use Rattle.printing.proofs.print_payloads.Lts as lts
-use Rattle.printing.proofs.channels.print_channel.Reads as print-channel-reads
-use Rattle.printing.proofs.contents.print_stereo.Reads as print-stereo-reads
+use Rattle.listing.proofs.say_payload.Reads as say-payload-reads
+use Rattle.printing.proofs.print_details.Reads as print-details-reads
 use Rattle.stereo.proofs.states.fresh.Reads as fresh-reads
-use Rattle.tag.proofs.part_of.Reads as part-of-reads
 
 abbrev Inv-loop : tie.InvT-loop
-Inv-loop image count index full state₀ k₀ state k = k ≤ count
+Inv-loop image count index rows full state₀ k₀ state k = k ≤ count
 
 abbrev μ-loop : tie.MeasureT-loop
-μ-loop image count index full state₀ k₀ state k = count - k
+μ-loop image count index rows full state₀ k₀ state k = count - k
 
 fresh-requires : tie.Need-fresh-requires Inv-loop μ-loop
 fresh-requires c κs = search needs
@@ -21,23 +20,47 @@ fresh-requires c κs = search needs
 loop-holds : tie.Need-loop-holds Inv-loop μ-loop
 loop-holds c = search needs
 
-part-of-requires : tie.Need-part-of-requires Inv-loop μ-loop
-part-of-requires c κs = search needs
+mul-at : tie.Need-mul-at Inv-loop μ-loop
+mul-at c = search needs
 
-sub-bytes : tie.Need-sub-bytes Inv-loop μ-loop
-sub-bytes c = search needs
+mul-say-payload : tie.Need-mul-say-payload Inv-loop μ-loop
+mul-say-payload c = search needs
 
-part-bytes-start : tie.Need-part-bytes-start Inv-loop μ-loop
-part-bytes-start c = search needs
+shared-slice-read-say-payload : tie.Need-shared-slice-read-say-payload Inv-loop μ-loop
+shared-slice-read-say-payload c = search needs
 
-part-bytes-end : tie.Need-part-bytes-end Inv-loop μ-loop
-part-bytes-end c = search needs
+add-say-payload : tie.Need-add-say-payload Inv-loop μ-loop
+add-say-payload c = search needs
 
-print-channel-requires : tie.Need-print-channel-requires Inv-loop μ-loop
-print-channel-requires c κs = search needs
+mul-say-payload-2 : tie.Need-mul-say-payload-2 Inv-loop μ-loop
+mul-say-payload-2 c = search needs
 
-print-stereo-requires : tie.Need-print-stereo-requires Inv-loop μ-loop
-print-stereo-requires c κs = search needs
+shared-slice-read-say-payload-2 : tie.Need-shared-slice-read-say-payload-2 Inv-loop μ-loop
+shared-slice-read-say-payload-2 c = search needs
+
+add-say-payload-2 : tie.Need-add-say-payload-2 Inv-loop μ-loop
+add-say-payload-2 c = search needs
+
+mul-say-payload-3 : tie.Need-mul-say-payload-3 Inv-loop μ-loop
+mul-say-payload-3 c = search needs
+
+shared-slice-read-say-payload-3 : tie.Need-shared-slice-read-say-payload-3 Inv-loop μ-loop
+shared-slice-read-say-payload-3 c = search needs
+
+add-say-payload-3 : tie.Need-add-say-payload-3 Inv-loop μ-loop
+add-say-payload-3 c = search needs
+
+mul-say-payload-4 : tie.Need-mul-say-payload-4 Inv-loop μ-loop
+mul-say-payload-4 c = search needs
+
+shared-slice-read-say-payload-4 : tie.Need-shared-slice-read-say-payload-4 Inv-loop μ-loop
+shared-slice-read-say-payload-4 c = search needs
+
+say-payload-requires : tie.Need-say-payload-requires Inv-loop μ-loop
+say-payload-requires c κs = search needs
+
+print-details-requires : tie.Need-print-details-requires Inv-loop μ-loop
+print-details-requires c κs = search needs
 
 add-k : tie.Need-add-k Inv-loop μ-loop
 add-k c = search needs
@@ -59,12 +82,20 @@ print-payloads-spec =
     μ-loop
     fresh-requires
     loop-holds
-    part-of-requires
-    sub-bytes
-    part-bytes-start
-    part-bytes-end
-    print-channel-requires
-    print-stereo-requires
+    mul-at
+    mul-say-payload
+    shared-slice-read-say-payload
+    add-say-payload
+    mul-say-payload-2
+    shared-slice-read-say-payload-2
+    add-say-payload-2
+    mul-say-payload-3
+    shared-slice-read-say-payload-3
+    add-say-payload-3
+    mul-say-payload-4
+    shared-slice-read-say-payload-4
+    say-payload-requires
+    print-details-requires
     add-k
     loop-less
     loop-again

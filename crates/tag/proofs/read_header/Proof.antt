@@ -3,7 +3,7 @@ use mathlib.Core.Bool.{true, false}
 use native.Mathlib.Omega.{arith}
 use borrow.Author.Tests.{not-true, not-false}
 use Rattle.tag.specs.Image.{soundImage, knownIndex, headerOf}
-use Rattle.tag.proofs.ImageLaws.{sound-facts}
+use Rattle.tag.proofs.ImageLaws.{sound-facts, known-small}
 use borrow.Author.Needs.{needs}
 use Rattle.tag.proofs.read_header.Statement.{statement}
 use Rattle.tag.proofs.read_header.Tie as tie
@@ -48,6 +48,13 @@ pair-at-requires-2 c κs =
     let f = sound-facts s (sym (i .before .is-sound .ensures) ∙ not-false (i .before .is-sound .result) (i .if1 .left)) in
     omega arith
 
+cast-t6 : tie.Need-cast-t6
+cast-t6 c =
+    let index = c .before .before .before .pair-at in
+    let known = c .before .before .is-known in
+    let small = known-small (index .result) (sym (known .ensures) ∙ not-false (known .result) (c .before .if2 .left)) in
+    record { fits = omega (arith, small) }
+
 returns-3 : tie.Need-returns-3
 unfolding headerOf
 returns-3 c =
@@ -68,4 +75,5 @@ read-header-spec =
     is-known-requires
     returns-2
     pair-at-requires-2
+    cast-t6
     returns-3)

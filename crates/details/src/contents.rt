@@ -1,4 +1,4 @@
-// A stereo payload, printed.
+// What a stereo payload holds, printed.
 ghost use Prim.Native.Nat.{_<_};
 use crate::records;
 use differences::Row;
@@ -115,27 +115,14 @@ fn print_contents(contents: Contents, state: State) {
     print_extension(extension);
 }
 
-// A stereo payload that was read: its line, and in full its contents.
-fn print_read(k: usize, contents: Contents, bits: usize, state: State, full: bool) {
-    let frame = contents.frame;
-    listing::say_stereo(k, frame.envelopes, bits);
-    if full {
-        print_contents(contents, state);
-    }
-}
-
-// A stereo payload, and in full the state after it, which comes back.
-pub fn print_stereo(k: usize, state: State, bytes: &[u8], full: bool) -> State {
+// The contents of a stereo payload, where it is accepted, and the state after it, which comes back.
+pub fn print_stereo(state: State, bytes: &[u8]) -> State {
     let r = readings::read(state, bytes, 0, bytes.len());
     let next = r.state;
-    if r.number != 0 {
-        listing::say_refused(k, b"stereo", r.number);
-    } else {
+    if r.number == 0 {
         let contents = r.contents;
-        print_read(k, contents, r.bits, next, full);
+        print_contents(contents, next);
     }
-    if full {
-        records::print_state(next);
-    }
+    records::print_state(next);
     next
 }

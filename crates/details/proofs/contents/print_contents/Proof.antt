@@ -1,13 +1,13 @@
 use Prim.Native.Nat.{_≤_, _-_}
 use borrow.Author.Needs.{needs}
-use Rattle.printing.proofs.contents.print_contents.Statement.{statement}
-use Rattle.printing.proofs.contents.print_contents.Tie as tie
-use Rattle.printing.proofs.contents.print_contents.Reads as reads
-use Rattle.printing.proofs.contents.print_contents.Lts as lts
-use Rattle.printing.proofs.contents.print_envelope.Reads as print-envelope-reads
-use Rattle.printing.proofs.contents.print_extension.Reads as print-extension-reads
-use Rattle.printing.proofs.contents.print_frame.Reads as print-frame-reads
-use Rattle.printing.proofs.contents.print_header.Reads as print-header-reads
+use Rattle.details.proofs.contents.print_contents.Statement.{statement}
+use Rattle.details.proofs.contents.print_contents.Tie as tie
+use Rattle.details.proofs.contents.print_contents.Reads as reads
+use Rattle.details.proofs.contents.print_contents.Lts as lts
+use Rattle.details.proofs.contents.print_envelope.Reads as print-envelope-reads
+use Rattle.details.proofs.contents.print_extension.Reads as print-extension-reads
+use Rattle.details.proofs.contents.print_frame.Reads as print-frame-reads
+use Rattle.details.proofs.contents.print_header.Reads as print-header-reads
 
 abbrev Inv-loop : tie.InvT-loop
 Inv-loop contents state frame e₀ e = e ≤ 4

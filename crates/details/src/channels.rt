@@ -1,4 +1,4 @@
-// A channel payload, printed.
+// What a channel payload holds, printed.
 ghost use Prim.Native.Nat.{_≤_};
 ghost use lib.ListN.{length};
 use channel::Reading;
@@ -31,16 +31,8 @@ fn print_numbers(r: Reading, lines: &[i16], factors: &[u8], books: &[u8]) {
     rows::say_values(lines);
 }
 
-// A channel stream that was read: its line, and in full its numbers.
-fn print_read(k: usize, r: Reading, lines: &[i16], factors: &[u8], books: &[u8], full: bool) {
-    listing::say_channel(k, r.gain, lines, r.bits);
-    if full {
-        print_numbers(r, lines, factors, books);
-    }
-}
-
-// A channel payload.
-pub fn print_channel(k: usize, bytes: &[u8], index: u8, full: bool)
+// The numbers of a channel payload, where it is accepted.
+pub fn print_channel(bytes: &[u8], index: u8)
     requires { ⌜ length (now bytes) ≤ 65535 ⌝ }
 {
     let mut lines = [0i16; 1024];
@@ -48,9 +40,7 @@ pub fn print_channel(k: usize, bytes: &[u8], index: u8, full: bool)
     let mut books = [0u8; 120];
     let end = bytes.len() as u32;
     let r = channel::read_channel(bytes, 0, end, index, &mut lines, &mut factors, &mut books);
-    if r.number != 0 {
-        listing::say_refused(k, b"channel", r.number);
-        return;
+    if r.number == 0 {
+        print_numbers(r, &lines, &factors, &books);
     }
-    print_read(k, r, &lines, &factors, &books, full);
 }

@@ -1,9 +1,9 @@
 use Prim.Native.Nat.{_≤_, _-_, _*_}
 use borrow.Author.Needs.{needs}
-use Rattle.printing.proofs.channels.places.Statement.{statement}
-use Rattle.printing.proofs.channels.places.Tie as tie
-use Rattle.printing.proofs.channels.places.Reads as reads
-use Rattle.printing.proofs.channels.places.Lts as lts
+use Rattle.details.proofs.channels.places.Statement.{statement}
+use Rattle.details.proofs.channels.places.Tie as tie
+use Rattle.details.proofs.channels.places.Reads as reads
+use Rattle.details.proofs.channels.places.Lts as lts
 
 abbrev Inv-loop : tie.InvT-loop
 Inv-loop groups bands n₀ g₀ n g = (n ≤ 255 * g) × (g ≤ groups)

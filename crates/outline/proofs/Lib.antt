@@ -1,0 +1,3 @@
+pub mod OutlineLaws
+pub mod RowLaws
+pub mod SoundingLaws

@@ -1,0 +1,23 @@
+use borrow.Author.Needs.{needs}
+use Rattle.outline.specs.Answers.{stereoIn}
+use Rattle.outline.proofs.stereo_turn.Statement.{statement}
+use Rattle.outline.proofs.stereo_turn.Tie as tie
+use Rattle.outline.proofs.stereo_turn.Reads as reads
+use Rattle.outline.proofs.stereo_turn.Lts as lts
+use Rattle.outline.proofs.wide.Reads as wide-reads
+use Rattle.stereo.proofs.readings.read.Reads as read-reads
+
+read-requires : tie.Need-read-requires
+read-requires c κs = search needs
+
+wide-requires : tie.Need-wide-requires
+wide-requires c κs = search needs
+
+returns : tie.Need-returns
+unfolding stereoIn
+returns c =
+    let r = c .before .before .before .before .read .ensures in
+    (rw (c .before .wide .ensures .0, r), rw r)
+
+pub stereo-turn-spec : {M : Type 1} → statement M
+stereo-turn-spec = tie.close (tie.spec read-requires wide-requires returns)
