@@ -14,7 +14,7 @@ use Rattle.bits.specs.Reader.{Answer, got, refused, Reader, give, pick, tested,
 use Rattle.bits.specs.Field.{field}
 use Rattle.bits.specs.Loop.{counted}
 use Rattle.bits.proofs.Bools.{and-both}
-use Rattle.bits.proofs.Lawful.{never, split, tested-got}
+use Rattle.bits.proofs.Lawful.{never, split, tested-got, after-give}
 use Rattle.spectrum.specs.Grouping.{groupsAfter, groupsOf}
 use Rattle.side.specs.Sections.{increments, sectionLength, fill, section, nextSection, groupSections, groupBooks, widthOf}
 
@@ -127,10 +127,6 @@ module _ (sfbs bits base from : ℕ) (books s : List ℕ) (at end : ℕ) where
   unfolding groupBooks groupsAfter
   books-done h = let q : 8 - from ≡ 0 = omega arith in rw q
 
-same : {A : Type 0} (x : Answer A) (s : List ℕ) (end : ℕ) → after x give s end ≡ x
-same (got a m) s end = refl
-same (refused n p) s end = refl
-
 module _ (short : Bool) (sfbs bits : ℕ) (books s : List ℕ) (at end : ℕ) where
   pub books-short : short ≡ true → groupBooks (widthOf short) sfbs (groupsOf short bits) 0 books s at end ≡ groupBooks 3 sfbs (groupsAfter (8 - 0) bits) 0 books s at end
   unfolding groupsOf widthOf
@@ -138,4 +134,4 @@ module _ (short : Bool) (sfbs bits : ℕ) (books s : List ℕ) (at end : ℕ) wh
 
   pub books-long : short ≡ false → groupSections 5 sfbs 0 books s at end ≡ groupBooks (widthOf short) sfbs (groupsOf short bits) 0 books s at end
   unfolding groupBooks groupsOf widthOf
-  books-long e = rw e (sym (same (groupSections 5 sfbs 0 books s at end) s end))
+  books-long e = rw e (sym (after-give (groupSections 5 sfbs 0 books s at end) s end))

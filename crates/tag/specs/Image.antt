@@ -61,7 +61,3 @@ partIn h s k =
 
 unfoldable pub partOf : List ℕ → ℕ → Part
 partOf s k = partIn (headerOf s) s k
-
--- its bytes
-abbrev pub bytesOf : List ℕ → ℕ → List ℕ
-bytesOf s k = range s (offsetOf s k) (offsetOf s (k + 1))

@@ -3,7 +3,6 @@ use Rattle.differences.proofs.KindLaws.{through, least-abs}
 use mathlib.Core.Path.{_≡_, _∙_, refl}
 use native.Mathlib.Omega.{arith}
 use Rattle.differences.specs.Kind.{least}
-use Rattle.differences.proofs.KindLaws.{pick-thru}
 use borrow.Author.Needs.{needs}
 use Rattle.differences.proofs.kinds.least.Statement.{statement}
 use Rattle.differences.proofs.kinds.least.Tie as tie

@@ -3,7 +3,6 @@ use Rattle.differences.proofs.KindLaws.{through, most-abs}
 use mathlib.Core.Path.{_≡_, _∙_, refl}
 use native.Mathlib.Omega.{arith}
 use Rattle.differences.specs.Kind.{most}
-use Rattle.differences.proofs.KindLaws.{pick-thru}
 use borrow.Author.Needs.{needs}
 use Rattle.differences.proofs.kinds.most.Statement.{statement}
 use Rattle.differences.proofs.kinds.most.Tie as tie

@@ -9,9 +9,9 @@ use lib.IntN.{ℤ, pos, _-ℤ_, natAbs}
 use mir.Syntax.{w16}
 use mir.Val.{toZ, ofZ}
 use mir.ValLaws.{toZ-pos}
-use Rattle.bits.proofs.Signed.{fits, abs-add, thru}
+use Rattle.bits.proofs.Signed.{fits, abs-add, thru, wide-fits}
 use Rattle.differences.specs.Difference.{middle, added}
-use Rattle.differences.proofs.KindLaws.{byte-abs, wide-is, wide-fits, through, middle-le, difference-abs}
+use Rattle.differences.proofs.KindLaws.{byte-abs, wide-is, through, middle-le, difference-abs}
 use borrow.Author.Needs.{needs}
 use Rattle.differences.proofs.steps.added.Statement.{statement}
 use Rattle.differences.proofs.steps.added.Tie as tie

@@ -3,8 +3,8 @@ use mathlib.Core.Path.{_≡_, refl, _∙_}
 use Prim.Native.Nat.{_≤_}
 use lib.IntN.{pos, _-ℤ_, natAbs}
 use mir.Syntax.{w16}
-use Rattle.bits.proofs.Signed.{fits, thru}
-use Rattle.differences.proofs.KindLaws.{byte-abs, wide-is, wide-fits, neg-parts, not-neg}
+use Rattle.bits.proofs.Signed.{fits, thru, wide-fits, not-neg}
+use Rattle.differences.proofs.KindLaws.{byte-abs, wide-is, neg-parts}
 use Rattle.differences.proofs.steps.magnitude.Statement.{statement}
 use Rattle.differences.proofs.steps.magnitude.Tie as tie
 use Rattle.differences.proofs.steps.magnitude.Reads as reads

@@ -7,7 +7,6 @@ use Rattle.differences.proofs.KindLaws.{through, middle-le}
 use mathlib.Core.Path.{_≡_, _∙_, refl}
 use native.Mathlib.Omega.{arith}
 use Rattle.differences.specs.Difference.{middle}
-use Rattle.differences.proofs.KindLaws.{pick-thru}
 use borrow.Author.Needs.{needs}
 use Rattle.differences.proofs.steps.middle.Statement.{statement}
 use Rattle.differences.proofs.steps.middle.Tie as tie

@@ -1,5 +1,5 @@
+use borrow.Author.Tests.{not-true, not-false}
 use mathlib.Core.Path.{_≡_, sym, _∙_}
-use Rattle.differences.proofs.KindLaws.{not-true, not-false}
 use Rattle.stereo.specs.State.{soundSetup}
 use borrow.Author.Needs.{needs}
 use Rattle.stereo.proofs.states.is_sound_setup.Statement.{statement}

@@ -1,7 +1,6 @@
 use mathlib.Core.Path.{_≡_, sym, _∙_}
-use borrow.Author.Tests.{eq-eqb, ne-eqb, le-leb, lt-leb}
+use borrow.Author.Tests.{eq-eqb, ne-eqb, le-leb, lt-leb, not-true, not-false}
 use Rattle.stereo.specs.Stereo.{restart}
-use Rattle.differences.proofs.KindLaws.{not-true, not-false}
 use borrow.Author.Needs.{needs}
 use Rattle.stereo.proofs.turns.is_restart.Statement.{statement}
 use Rattle.stereo.proofs.turns.is_restart.Tie as tie
