@@ -3,7 +3,7 @@
 use Prim.Native.Nat.{ℕ}
 use mathlib.Core.Path.{_≡_, sym, _∙_, ap, subst}
 use mathlib.Core.List.{List, []}
-use mathlib.Core.Bool.{Bool, true, false}
+use mathlib.Core.Bool.{true, false}
 use lib.IntN.{ℤ, pos}
 use Rattle.bits.specs.Reader.{Answer, got, refused, give, expecting}
 use Rattle.bits.proofs.Lawful.{split, tested-got, same-value}
@@ -13,8 +13,6 @@ use Rattle.bits.specs.Loop.{counted, more, listed}
 use Rattle.differences.specs.Kind.{bands, inRange}
 use Rattle.differences.specs.Difference.{differenceTable, difference, added}
 use Rattle.differences.specs.Indices.{padded, indexFrom, index, indices}
-use Rattle.differences.specs.Answers.{indexAnswer}
-use Rattle.differences.specs.declared.Index.{Index}
 use Rattle.differences.specs.declared.Kind.{Kind}
 
 module _ (k : Kind) (mode time : ℕ) (s : List ℕ) (at end : ℕ) where

@@ -1,7 +1,7 @@
 -- Bounds of what differs between the kinds: bands, ranges, tables and entries.
 -- Assumes nothing.
 use Prim.Native.Nat.{ℕ, zero, suc, _+_, _-_, _%_, _<_, _≤_, _^_}
-use mathlib.Core.Path.{_≡_, refl, sym, _∙_, ap}
+use mathlib.Core.Path.{_≡_, refl, _∙_, ap}
 use mathlib.Core.List.{List, [], _∷_}
 use mathlib.Core.Bool.{Bool, true, false, not, _&&_}
 use native.Mathlib.Omega.{arith}
@@ -16,7 +16,7 @@ use mir.Val.{SFits, hbits, toZ, ofZ}
 use mir.ValLaws.{toZ-ofZ, toZ-pos}
 use Rattle.bits.specs.Reader.{got, pick}
 use Rattle.bits.proofs.Bools.{and-both, and-left, and-right, true-false}
-use Rattle.bits.proofs.Signed.{fits, abs-add, abs-neg, thru}
+use Rattle.bits.proofs.Signed.{abs-add, abs-neg, thru}
 use Rattle.tables.specs.Tables.{Table, codesOf, lensOf, wordOf}
 use Rattle.tables.specs.Names.{tables, noTable, tableAt}
 use Rattle.tables.specs.Words.{allCodes}

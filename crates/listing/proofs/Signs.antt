@@ -1,6 +1,6 @@
 -- A number of 16 bits, widened: it fits, and so does its negation; a number below 0 has a negation that is not.
 -- Assumes nothing.
-use Prim.Native.Nat.{ℕ, _≤_}
+use Prim.Native.Nat.{_≤_}
 use mathlib.Core.Path.{_≡_}
 use mathlib.Core.Bool.{true, false}
 use native.Mathlib.Omega.{arith}
@@ -8,7 +8,7 @@ use lib.Dec.{T}
 use borrow.Author.Tests.{ltb-true}
 use lib.IntN.{ℤ, pos, negsuc, negℤ, natAbs, _-ℤ_}
 use lib.Signed.{ltZ, nonNeg, natAbs-le}
-use mir.Syntax.{w8, w16, w64}
+use mir.Syntax.{w16, w64}
 use mir.Val.{SFits, Fits, toZ, ofZ}
 use mir.ValLaws.{toZ-ofZ}
 use Rattle.bits.proofs.Signed.{fits, thru, neg-fits, neg-is, abs-neg, not-neg}

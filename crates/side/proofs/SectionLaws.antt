@@ -2,7 +2,7 @@
 -- Assumes nothing.
 use Prim.Native.Nat.{ℕ, zero, suc, _+_, _*_, _-_, _%_, _<_, _≤_, _^_}
 use mathlib.Core.Path.{_≡_, refl, sym, _∙_, ap}
-use mathlib.Core.List.{List, [], _∷_}
+use mathlib.Core.List.{List, _∷_}
 use mathlib.Core.Bool.{Bool, true, false, _&&_}
 use native.Mathlib.Omega.{arith}
 use native.Mathlib.Nat.{mod-eq-of-lt, one-mul}
@@ -10,7 +10,7 @@ use lib.Pow.{pow-mono}
 use lib.ListN.{set}
 use lib.Dec.{eqb, ltb, leb}
 use borrow.Author.Tests.{ltb-true, leb-true, lt-ltb, le-ltb, le-leb, lt-leb, eq-eqb, ne-eqb}
-use Rattle.bits.specs.Reader.{Answer, got, refused, Reader, give, pick, tested, after, _>>=_}
+use Rattle.bits.specs.Reader.{got, refused, Reader, give, pick, tested, _>>=_}
 use Rattle.bits.specs.Field.{field}
 use Rattle.bits.specs.Loop.{counted}
 use Rattle.bits.proofs.Bools.{and-both}

@@ -3,7 +3,7 @@
 use Prim.Native.Nat.{ℕ, zero, suc, _+_, _*_, _-_, _<_, _≤_}
 use mathlib.Core.Path.{_≡_, refl, subst}
 use mathlib.Core.List.{List, [], _∷_, _++_}
-use mathlib.Core.Bool.{Bool, true, false, not, _&&_, _||_}
+use mathlib.Core.Bool.{Bool, true, false, not, _||_}
 use native.Mathlib.Omega.{arith}
 use borrow.Author.Tests.{leb-true, eqb-true, ne-eqb, lt-ltb, not-true}
 use lib.Dec.{eqb, leb, ltb}
@@ -12,7 +12,7 @@ use lib.IntN.{ℤ, pos, negsuc}
 use Rattle.bits.specs.Reader.{got, Reader, give, _>>=_, pick, expecting}
 use Rattle.bits.specs.Field.{field, zeroBit}
 use Rattle.bits.specs.Loop.{listed}
-use Rattle.bits.specs.Inside.{inside, leftOver}
+use Rattle.bits.specs.Inside.{leftOver}
 use Rattle.bits.specs.Payload.{whole}
 use Rattle.bits.proofs.Bools.{and-both, true-false, and-of}
 use Rattle.bits.proofs.Spelt.{Every, every-append}

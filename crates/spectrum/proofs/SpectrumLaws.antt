@@ -1,17 +1,17 @@
 -- What the code of the lines cites: a band, a band of some windows, and the lines of the groups.
 -- Assumes nothing.
 use Rattle.bits.proofs.Lawful.{after-give}
-use Prim.Native.Nat.{ℕ, zero, suc, _+_, _*_, _-_, _/_, _<_, _≤_}
-use mathlib.Core.Path.{_≡_, refl, sym, _∙_, ap}
-use mathlib.Core.List.{List, [], _∷_}
-use mathlib.Core.Bool.{Bool, true, false}
+use Prim.Native.Nat.{ℕ, _+_, _*_, _-_, _/_, _<_, _≤_}
+use mathlib.Core.Path.{_≡_, sym, _∙_, ap}
+use mathlib.Core.List.{List, _∷_}
+use mathlib.Core.Bool.{Bool, false}
 use native.Mathlib.Omega.{arith}
 use native.Mathlib.Nat.{mul-le-mul-right, mul-div-le, mul-comm, suc-mul}
 use native.Mathlib.Numerals.{add-one}
 use borrow.Author.Tests.{eq-eqb, ne-eqb}
 use lib.ListN.{getD}
 use lib.IntN.{ℤ}
-use Rattle.bits.specs.Reader.{Answer, got, refused, Reader, give, after, _>>=_}
+use Rattle.bits.specs.Reader.{Answer, got, refused}
 use Rattle.bits.specs.Loop.{counted}
 use Rattle.spectrum.specs.Bands.{firstLine, bandWidth}
 use Rattle.spectrum.specs.Grouping.{groupsAfter, groupsOf}

@@ -1,6 +1,6 @@
 -- A payload uses at most 8,192 bits, so that its end does not count from there on.
 -- Assumes nothing.
-use Prim.Native.Nat.{ℕ, zero, suc, _+_, _*_, _-_, _<_, _≤_, _^_, min}
+use Prim.Native.Nat.{ℕ, _+_, _*_, _-_, _<_, _≤_, min}
 use mathlib.Core.Path.{_≡_, refl, sym, _∙_, ap}
 use mathlib.Core.Bool.{Bool, true, false}
 use mathlib.Core.List.{List}
@@ -10,18 +10,17 @@ use borrow.Author.Tests.{lt-leb}
 use lib.Dec.{eqb}
 use lib.IntN.{ℤ}
 use lib.ListN.{length}
-use Rattle.bits.specs.Reader.{Answer, got, refused, Reader, give, pick, after, _>>=_}
+use Rattle.bits.specs.Reader.{Answer, got, refused, pick, after, _>>=_}
 use Rattle.bits.specs.Payload.{ended, whole}
 use Rattle.bits.specs.Field.{field}
 use Rattle.bits.proofs.Taken.{field-below}
 use Rattle.bits.proofs.Lawful.{split, same-value}
 use Rattle.differences.specs.Kind.{bands}
-use Rattle.differences.specs.Difference.{firstTable, differenceTable, difference}
-use Rattle.differences.specs.Kind.{fine}
+use Rattle.differences.specs.Difference.{differenceTable, difference}
 use Rattle.differences.specs.Indices.{indexFrom, index, indices}
 use Rattle.differences.specs.Rows.{row, rowsOf, rows}
 use Rattle.differences.specs.declared.Kind.{Kind}
-use Rattle.differences.specs.declared.Kind.the-variants.{Iid, Icc, Ipd, Opd}
+use Rattle.differences.specs.declared.Kind.the-variants.{Iid, Icc}
 use Rattle.differences.specs.declared.Held.{Held}
 use Rattle.differences.proofs.KindLaws.{bands-le, table-below}
 use Rattle.stereo.specs.Header.{mode, headerFields, header, setupAfter}

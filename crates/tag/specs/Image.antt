@@ -5,7 +5,6 @@ use mathlib.Core.Bool.{Bool, true, _&&_, _||_}
 use lib.Dec.{leb, ltb, eqb}
 use lib.ListN.{length, getD}
 use Rattle.bits.specs.Reader.{pick}
-use Rattle.bits.specs.Payload.{range}
 use Rattle.tag.specs.declared.Header.{Header}
 use Rattle.tag.specs.declared.Part.{Part}
 

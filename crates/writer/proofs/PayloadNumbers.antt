@@ -1,11 +1,10 @@
 -- Which numbers a payload's reading refuses with: 10, 13, 31, 32, 33, 34; and a whole payload 12 besides.
 -- Assumes nothing.
 use Rattle.differences.proofs.KindLaws.{table-below}
-use Prim.Native.Nat.{ℕ, _+_, _*_, _<_}
+use Prim.Native.Nat.{ℕ, _*_}
 use mathlib.Core.Path.{_≡_, refl, subst}
 use mathlib.Core.List.{List}
 use mathlib.Core.Bool.{Bool, true, false, _||_}
-use native.Mathlib.Omega.{arith}
 use lib.Dec.{eqb}
 use Rattle.bits.specs.Reader.{refused, Reader, give, _>>=_, pick, expecting}
 use Rattle.bits.specs.Field.{field, zeroBit}
@@ -19,12 +18,10 @@ use Rattle.words.proofs.WordNumbered.{word-numbered}
 use Rattle.tables.specs.Tables.{codesOf, lensOf}
 use Rattle.tables.specs.Names.{tableAt}
 use Rattle.tables.proofs.Rules.{ruled-at}
-use Rattle.differences.specs.Difference.{firstTable, differenceTable, difference}
-use Rattle.differences.specs.Kind.{fine}
+use Rattle.differences.specs.Difference.{differenceTable, difference}
 use Rattle.differences.specs.Indices.{indexFrom, index, indices}
 use Rattle.differences.specs.Rows.{row, rowsOf, rows}
 use Rattle.differences.specs.declared.Kind.{Kind}
-use Rattle.differences.specs.declared.Kind.the-variants.{Iid, Icc, Ipd, Opd}
 use Rattle.differences.specs.declared.Held.{Held}
 use Rattle.stereo.specs.Header.{mode, headerFields, header}
 use Rattle.stereo.specs.Frame.{bordersOf, borders, frame}

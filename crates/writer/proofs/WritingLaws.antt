@@ -1,8 +1,8 @@
 -- The round trips: what is written is read to the same contents, count and state; what was read is written back to the bits that it used. And 40
 -- is given exactly where no payload has the contents.
 -- Assumes nothing.
-use Prim.Native.Nat.{ℕ, _*_, _-_, _<_, _≤_}
-use mathlib.Core.Path.{_≡_, refl, ap, subst}
+use Prim.Native.Nat.{ℕ, _*_, _<_, _≤_}
+use mathlib.Core.Path.{_≡_, refl, ap}
 use mathlib.Core.List.{List}
 use mathlib.Core.Bool.{Bool, true, false, _||_}
 use native.Mathlib.Omega.{arith}
@@ -15,7 +15,6 @@ use Rattle.bits.specs.Payload.{whole}
 use Rattle.bits.specs.Pieces.{total}
 use Rattle.bits.specs.Packed.{putAll, bytesFor, packed}
 use Rattle.bits.specs.Writable.{matches, writable}
-use Rattle.bits.proofs.Bools.{true-false}
 use Rattle.bits.proofs.PayloadLaws.{whole-got, whole-is}
 use Rattle.bits.proofs.PackedLaws.{packed-length}
 use Rattle.bits.proofs.Exact.{ReadTo, can, cannot, written-read, read-writable, gives-back, scratch-read}

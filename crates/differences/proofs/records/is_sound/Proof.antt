@@ -1,5 +1,5 @@
 use borrow.Author.Tests.{not-true, not-false}
-use mathlib.Core.Path.{_≡_, sym, _∙_}
+use mathlib.Core.Path.{sym, _∙_}
 use Rattle.differences.specs.Held.{soundHeld}
 use borrow.Author.Needs.{needs}
 use Rattle.differences.proofs.records.is_sound.Statement.{statement}

@@ -1,5 +1,6 @@
+-- Below the band count the range is the kind's, above it 0 alone; an index and both ends go through 16 bits unchanged.
 use Rattle.bits.proofs.Signed.{wide-fits}
-use mathlib.Core.Path.{_≡_, sym, _∙_}
+use mathlib.Core.Path.{_∙_}
 use native.Mathlib.Omega.{arith}
 use borrow.Author.Tests.{lt-ltb, le-ltb}
 use mir.Syntax.{w16}

@@ -1,5 +1,6 @@
+-- In 16 bits a byte can be negated, -128 too: a number below 0 is the negative of its magnitude.
 use native.Mathlib.Omega.{arith}
-use mathlib.Core.Path.{_≡_, refl, _∙_}
+use mathlib.Core.Path.{refl}
 use Prim.Native.Nat.{_≤_}
 use lib.IntN.{pos, _-ℤ_, natAbs}
 use mir.Syntax.{w16}

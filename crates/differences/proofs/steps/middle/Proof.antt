@@ -1,3 +1,4 @@
+-- Kind by kind. Of a level the grid tells, and a number of at most 30 goes through 16 bits unchanged.
 use mir.Syntax.{w16}
 use mathlib.Core.Bool.{Bool, true, false}
 use lib.IntN.{pos}

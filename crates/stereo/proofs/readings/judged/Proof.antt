@@ -1,5 +1,6 @@
+-- 35 where contents are not accepted; else the state after them is carried from the state that they were read from.
 use borrow.Author.Tests.{not-true, not-false}
-use mathlib.Core.Path.{_≡_, sym, _∙_}
+use mathlib.Core.Path.{sym, _∙_}
 use Rattle.stereo.specs.Stereo.{taken}
 use borrow.Author.Needs.{needs}
 use Rattle.stereo.proofs.readings.judged.Statement.{statement}

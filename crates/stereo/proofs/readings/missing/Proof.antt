@@ -1,5 +1,5 @@
 use borrow.Author.Tests.{not-true, not-false}
-use mathlib.Core.Path.{_≡_, sym, _∙_}
+use mathlib.Core.Path.{sym, _∙_}
 use Rattle.stereo.specs.Stereo.{missing}
 use borrow.Author.Needs.{needs}
 use Rattle.stereo.proofs.readings.missing.Statement.{statement}

@@ -1,4 +1,5 @@
-use mathlib.Core.Path.{_≡_, sym, _∙_}
+-- Each `return` shows the tests of `readFrom` up to the one that failed; the part of the buffer is the range.
+use mathlib.Core.Path.{sym, _∙_}
 use borrow.Author.Tests.{le-leb, lt-leb, not-true, not-false}
 use Rattle.stereo.specs.Stereo.{readFrom}
 use borrow.Author.Needs.{needs}

@@ -1,5 +1,6 @@
+-- No payload uses more than 8,192 bits, so looking at 1,025 bytes answers what looking at all of them would (`whole-near`).
 use Rattle.bits.proofs.Taken.{ended-is}
-use mathlib.Core.Path.{_≡_, sym, _∙_}
+use mathlib.Core.Path.{_∙_}
 use Rattle.stereo.proofs.BytesLaws.{bytes-left, bytes-got, bytes-refused}
 use borrow.Author.Needs.{needs}
 use Rattle.stereo.proofs.readings.read_bytes.Statement.{statement}

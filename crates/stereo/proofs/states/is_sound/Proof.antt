@@ -1,5 +1,6 @@
+-- Each `return` shows the tests of `sound` up to the one that failed.
 use borrow.Author.Tests.{not-true, not-false}
-use mathlib.Core.Path.{_≡_, sym, _∙_}
+use mathlib.Core.Path.{sym, _∙_}
 use Rattle.stereo.specs.State.{sound}
 use borrow.Author.Needs.{needs}
 use Rattle.stereo.proofs.states.is_sound.Statement.{statement}

@@ -1,4 +1,5 @@
-use mathlib.Core.Path.{_≡_, sym, _∙_}
+-- Each `return` shows the tests of `restart` up to the one that failed.
+use mathlib.Core.Path.{sym, _∙_}
 use borrow.Author.Tests.{eq-eqb, ne-eqb, le-leb, lt-leb, not-true, not-false}
 use Rattle.stereo.specs.Stereo.{restart}
 use borrow.Author.Needs.{needs}
