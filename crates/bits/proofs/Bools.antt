@@ -1,4 +1,4 @@
--- Tests put together by `&&`, taken apart.
+-- Tests put together by `&&`, taken apart and put together.
 -- Assumes nothing.
 use Prim.Native.Nat.{ℕ}
 use mathlib.Core.Path.{_≡_, refl}
@@ -17,6 +17,9 @@ and-right false b t = absurd t
 pub and-both : (a b : Bool) → (a && b) ≡ true → (a ≡ true) × (b ≡ true)
 and-both true b e = (refl, e)
 and-both false b e = (e, cc)
+
+pub and-of : (a b : Bool) → a ≡ true → b ≡ true → (a && b) ≡ true
+and-of a b p q = rw p q
 
 -- no test holds and fails
 pub true-false : (b : Bool) → b ≡ true → b ≡ false → ⊥

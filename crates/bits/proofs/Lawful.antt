@@ -13,6 +13,15 @@ use Rattle.bits.proofs.BitLaws.{Same}
 pub never : {A : Type 0} {B : Type 0} {a : A} {m n p : ℕ} → refused n p ≡ got a m → B
 never e = let z : _≡_ {A = ℕ} 0 1 = cc in absurd (omega arith)
 
+-- two accepted answers that are the same have the same value
+pub same-value : {A : Type 0} {a b : A} {m n : ℕ} → got a m ≡ got b n → a ≡ b
+same-value e = cc
+
+-- an answer that is given on is the answer
+pub after-give : {A : Type 0} (x : Answer A) (s : List ℕ) (end : ℕ) → after x give s end ≡ x
+after-give (got a m) s end = refl
+after-give (refused n p) s end = refl
+
 -- what is right of a reader: what it accepts lies between its start and its end; only the bits there count; an accepted reading stands
 -- wherever the end is, unless it is before the next place, where the answer is refusal 10
 pub record Lawful {A : Type 0} (r : Reader A) : Type 0 where

@@ -16,3 +16,4 @@ pub mod Exact
 pub mod Copied
 pub mod Signed
 pub mod Numbered
+pub mod Gives

@@ -1,16 +1,16 @@
 -- The numbers that a reader refuses with: all pass a test. Proved of each primitive, and kept by the ways of putting readers together.
 -- Assumes nothing.
-use Prim.Native.Nat.{ℕ, zero, suc, _+_, _*_, _-_}
+use Prim.Native.Nat.{ℕ, zero, suc, _+_, _-_}
 use mathlib.Core.Path.{_≡_, refl, subst}
 use mathlib.Core.List.{List, [], _∷_, _++_}
 use mathlib.Core.Bool.{Bool, true, false}
 use native.Mathlib.Omega.{arith}
 use lib.Dec.{leb, eqb}
 use Rattle.bits.specs.Bits.{bitsFrom}
-use Rattle.bits.specs.Reader.{Answer, got, refused, Reader, give, refuse, after, _>>=_, pick, tested, expecting}
+use Rattle.bits.specs.Reader.{Answer, got, refused, Reader, give, after, _>>=_, pick, tested, expecting}
 use Rattle.bits.specs.Field.{field, zeroBit}
 use Rattle.bits.specs.Loop.{counted, more, listed}
-use Rattle.bits.specs.Places.{placed, oneField, here, refuseAt}
+use Rattle.bits.specs.Places.{placed, oneField, here}
 use Rattle.bits.specs.Inside.{renumbered, inside, Fill, leftOver}
 use Rattle.bits.specs.Payload.{ended, whole}
 

@@ -5,11 +5,12 @@ use mathlib.Core.Path.{_≡_, refl}
 use mathlib.Core.Bool.{Bool, true, false, cond}
 use native.Mathlib.Omega.{arith}
 use lib.IntN.{ℤ, pos, negsuc, negℤ, subℕ, _+ℤ_, _-ℤ_, natAbs, +ℤ-idl}
-use lib.Signed.{mag}
-use lib.Dec.{ltb}
-use mir.Syntax.{Width}
+use lib.Signed.{mag, ltZ, nonNeg, natAbs-le}
+use lib.Dec.{ltb, T}
+use mir.Syntax.{Width, w8, w16}
 use mir.Val.{SFits, hbits, toZ, ofZ}
 use mir.ValLaws.{toZ-ofZ}
+use Rattle.bits.proofs.Bools.{true-false}
 
 mag-le : (z : ℤ) → mag z ≤ natAbs z
 mag-le (pos n) = omega arith
@@ -36,6 +37,14 @@ abs-neg (negsuc n) = refl
 -- a value of small magnitude fits
 pub fits : {w : Width} {z : ℤ} (k : ℕ) → natAbs z ≤ k → k < 2 ^ hbits w → SFits w z
 fits {w} {z} k h g = record { sfits = omega (arith, mag-le z) }
+
+-- a signed byte, widened
+pub wide-fits : (z : ℤ) → SFits w8 z → SFits w16 (toZ w8 (ofZ w8 z))
+wide-fits z f = rw (toZ-ofZ w8 z f) (fits 128 (natAbs-le z (f .sfits)) (omega arith))
+
+pub not-neg : (z : ℤ) → ltZ z (pos 0) ≡ false → T (nonNeg z)
+not-neg (pos n) e = tt
+not-neg (negsuc n) e = absurd (true-false true refl e)
 
 module _ (w : Width) where
   -- it goes through the bits unchanged

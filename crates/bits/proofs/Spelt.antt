@@ -147,9 +147,9 @@ abbrev pub Every : {A : Type 0} → (A → Type 0) → List A → Type 0
 Every P [] = Unit
 Every P (x ∷ xs) = P x × Every P xs
 
-every-snoc : {A : Type 0} (P : A → Type 0) (xs : List A) (x : A) → Every P xs → P x → Every P (xs ++ x ∷ [])
-every-snoc P [] x a p = (p, tt)
-every-snoc P (y ∷ xs) x a p = (a .0, every-snoc P xs x (a .1) p)
+pub every-append : {A : Type 0} (P : A → Type 0) (xs ys : List A) → Every P xs → Every P ys → Every P (xs ++ ys)
+every-append P [] ys p q = q
+every-append P (x ∷ xs) ys p q = (p .0, every-append P xs ys (p .1) q)
 
 pub spell-snoc : {A : Type 0} (w : List A → A → List Piece) (done xs : List A) (x : A)
     → spellEach w done (xs ++ x ∷ []) ≡ spellEach w done xs ++ w (done ++ xs) x
@@ -163,7 +163,7 @@ pub listed-spelt : {A : Type 0} {f : List A → Reader A} {w : List A → A → 
 unfolding listed
 listed-spelt {A} {f} {w} P g n =
     told refl (λ xs o. (o .0 ∙ zero-add n, o .1)) (counted-spelt {f = more f} (λ i xs. (length xs ≡ i) × Every P xs)
-    (λ i xs o. bind-spelt (g xs) λ x p. give-spelt (spell-snoc w [] xs x) (rw (length-append xs (x ∷ [])) (omega arith), every-snoc P xs x (o .1) p))
+    (λ i xs o. bind-spelt (g xs) λ x p. give-spelt (spell-snoc w [] xs x) (rw (length-append xs (x ∷ [])) (omega arith), every-append P xs (x ∷ []) (o .1) (p, tt)))
     0 n [] (refl, tt))
 
 abbrev pub Filled : ℕ → Fill → Type 0

@@ -1,9 +1,8 @@
 -- What an answer of the code says once it is taken apart: for the proofs of functions that read a field and go on.
 -- Assumes nothing.
-use Prim.Native.Nat.{ℕ, _+_, _<_, _≤_, _^_}
+use Prim.Native.Nat.{ℕ, _<_, _^_}
 use mathlib.Core.Path.{_≡_, sym, _∙_, ap}
 use mathlib.Core.List.{List}
-use native.Mathlib.Omega.{arith}
 use Rattle.bits.specs.Reader.{Answer, got}
 use Rattle.bits.specs.Field.{field}
 use Rattle.bits.specs.Answers.{fieldAnswer, endedAnswer}
@@ -19,9 +18,6 @@ answered e p = sym e ∙ ap fieldAnswer p
 pub ended-is : {A : Type 0} (a : A) {r q : Ended} {x : Answer A} → endedAnswer r a ≡ x → r ≡ q → x ≡ endedAnswer q a
 ended-is a e p = sym e ∙ ap (λ (y : Ended). endedAnswer y a) p
 
--- a field that was read is below 2 ^ n, and lies before the end
+-- a field that was read is below 2 ^ n
 pub field-below : (n : ℕ) (s : List ℕ) (at end v next : ℕ) → field n s at end ≡ got v next → v < 2 ^ n
 field-below n s at end v next e = let w = field-taken n s at end next v e in rw (w .1) (bitsFrom-lt s at n)
-
-pub field-next : (n : ℕ) (s : List ℕ) (at end v next : ℕ) → field n s at end ≡ got v next → (next ≡ at + n) × (next ≤ end)
-field-next n s at end v next e = let w = field-taken n s at end next v e in (w .2, omega arith)

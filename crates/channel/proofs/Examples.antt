@@ -6,12 +6,12 @@ use mathlib.Core.Path.{_≡_, refl}
 use mathlib.Core.List.{List, [], _∷_, _++_}
 use lib.ListN.{length, replicate}
 use lib.IntN.{ℤ, pos, negsuc}
-use Rattle.bits.specs.Reader.{Answer, got, refused}
+use Rattle.bits.specs.Reader.{got, refused}
 use Rattle.bits.specs.Payload.{whole}
 use Rattle.spectrum.specs.Grouping.{groupsAfter, inEight}
 use Rattle.side.specs.Sections.{sectionLength}
 use Rattle.channel.specs.Stream.{stream}
-use Rattle.channel.specs.Promise.{refusal, readingOf, linesAfter, factorsAfter, booksAfter}
+use Rattle.channel.specs.Promise.{readingOf, linesAfter, factorsAfter, booksAfter}
 use Rattle.channel.specs.declared.Reading.{Reading}
 use Rattle.channel.proofs.All.{all}
 

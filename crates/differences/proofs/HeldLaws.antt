@@ -1,8 +1,8 @@
 -- The soundness of a record, index by index.
 -- Assumes nothing.
-use Prim.Native.Nat.{ℕ, suc, _+_, _<_}
-use mathlib.Core.Path.{_≡_, refl, sym, _∙_, ap}
-use mathlib.Core.List.{List, []}
+use Prim.Native.Nat.{ℕ, _+_, _<_}
+use mathlib.Core.Path.{_≡_, sym, _∙_, ap}
+use mathlib.Core.List.{List}
 use mathlib.Core.Bool.{true, false, _&&_}
 use native.Mathlib.Numerals.{add-one}
 use lib.ListN.{length, drop, getD}

@@ -3,27 +3,17 @@
 use Prim.Native.Nat.{ℕ}
 use mathlib.Core.Path.{_≡_, sym, _∙_, ap, subst}
 use mathlib.Core.List.{List, []}
-use mathlib.Core.Bool.{Bool, true, false}
+use mathlib.Core.Bool.{true, false}
 use lib.IntN.{ℤ, pos}
 use Rattle.bits.specs.Reader.{Answer, got, refused, give, expecting}
-use Rattle.bits.proofs.Lawful.{split, tested-got}
+use Rattle.bits.proofs.Lawful.{split, tested-got, same-value}
 use Rattle.tables.specs.Tables.{wordOf}
 use Rattle.tables.specs.Names.{tableAt}
 use Rattle.bits.specs.Loop.{counted, more, listed}
 use Rattle.differences.specs.Kind.{bands, inRange}
 use Rattle.differences.specs.Difference.{differenceTable, difference, added}
 use Rattle.differences.specs.Indices.{padded, indexFrom, index, indices}
-use Rattle.differences.specs.Answers.{indexAnswer}
-use Rattle.differences.specs.declared.Index.{Index}
 use Rattle.differences.specs.declared.Kind.{Kind}
-
--- two accepted answers that are the same have the same value
-same-value : {A : Type 0} {a b : A} {m n : ℕ} → got a m ≡ got b n → a ≡ b
-same-value e = cc
-
--- the answer, by the variant that it is
-pub index-answered : {r q : Index} {x : Answer ℤ} → indexAnswer r ≡ x → r ≡ q → x ≡ indexAnswer q
-index-answered e p = sym e ∙ ap indexAnswer p
 
 module _ (k : Kind) (mode time : ℕ) (s : List ℕ) (at end : ℕ) where
   -- the word of the table that the code chose

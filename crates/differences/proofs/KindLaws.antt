@@ -1,11 +1,11 @@
 -- Bounds of what differs between the kinds: bands, ranges, tables and entries.
 -- Assumes nothing.
 use Prim.Native.Nat.{ℕ, zero, suc, _+_, _-_, _%_, _<_, _≤_, _^_}
-use mathlib.Core.Path.{_≡_, refl, sym, _∙_, ap}
+use mathlib.Core.Path.{_≡_, refl, _∙_, ap}
 use mathlib.Core.List.{List, [], _∷_}
 use mathlib.Core.Bool.{Bool, true, false, not, _&&_}
 use native.Mathlib.Omega.{arith}
-use borrow.Author.Tests.{ltb-false, le-ltb}
+use borrow.Author.Tests.{ltb-false, le-ltb, not-true}
 use lib.Dec.{eqb, leb, ltb, T, leb→le}
 use lib.ListN.{length, getD, drop, length-take}
 use lib.Seq.{getD-drop}
@@ -16,24 +16,15 @@ use mir.Val.{SFits, hbits, toZ, ofZ}
 use mir.ValLaws.{toZ-ofZ, toZ-pos}
 use Rattle.bits.specs.Reader.{got, pick}
 use Rattle.bits.proofs.Bools.{and-both, and-left, and-right, true-false}
-use Rattle.bits.proofs.Signed.{fits, abs-add, abs-neg, thru}
+use Rattle.bits.proofs.Signed.{abs-add, abs-neg, thru}
 use Rattle.tables.specs.Tables.{Table, codesOf, lensOf, wordOf}
 use Rattle.tables.specs.Names.{tables, noTable, tableAt}
 use Rattle.tables.specs.Words.{allCodes}
 use Rattle.words.proofs.WordLaws.{word-fit}
 use Rattle.differences.specs.Kind.{isPhase, fine, byMode, bands, least, most, within, inRange}
-use Rattle.differences.specs.Difference.{middle, added}
+use Rattle.differences.specs.Difference.{firstTable, differenceTable, middle, added}
 use Rattle.differences.specs.declared.Kind.{Kind}
 use Rattle.differences.specs.declared.Kind.the-variants.{Iid, Icc, Ipd, Opd}
-
--- a test that is turned round
-pub not-true : (b : Bool) → not b ≡ true → b ≡ false
-not-true true e = absurd (true-false false e refl)
-not-true false e = refl
-
-pub not-false : (b : Bool) → not b ≡ false → b ≡ true
-not-false true e = refl
-not-false false e = absurd (true-false true refl e)
 
 -- at most 34 bands
 pub byMode-le : (mode a b c k : ℕ) → a ≤ k → b ≤ k → c ≤ k → byMode mode a b c ≤ k
@@ -61,9 +52,6 @@ pub pick-fits : (b : Bool) {x y : ℤ} → SFits w8 x → SFits w8 y → SFits w
 pick-fits true f g = f
 pick-fits false f g = g
 
-pub pick-thru : (b : Bool) (x y : ℤ) → natAbs x ≤ 60 → natAbs y ≤ 60 → toZ w16 (ofZ w16 (pick b x y)) ≡ pick b x y
-pick-thru b x y h g = thru w16 60 (pick-abs b x y 60 h g) (omega arith)
-
 -- a signed byte
 pub byte-abs : (z : ℤ) → SFits w8 z → natAbs z ≤ 128
 byte-abs (pos n) f = let h : n < 2 ^ 7 = f .sfits in omega arith
@@ -77,17 +65,10 @@ through w k e h l = ap (λ (z : ℤ). toZ w (ofZ w z)) e ∙ thru w k h l
 pub wide-is : (x : ℤ) → SFits w8 x → toZ w16 (ofZ w16 (toZ w8 (ofZ w8 x))) ≡ x
 wide-is x f = through w16 128 (toZ-ofZ w8 x f) (byte-abs x f) (omega arith)
 
-pub wide-fits : (x : ℤ) → SFits w8 x → SFits w16 (toZ w8 (ofZ w8 x))
-wide-fits x f = rw (toZ-ofZ w8 x f) (fits 128 (byte-abs x f) (omega arith))
-
 -- the negation of a number below 0
 pub neg-parts : (x : ℤ) → ltZ x (pos 0) ≡ true → T (nonNeg (pos 0 -ℤ x)) × (natAbs (pos 0 -ℤ x) ≡ natAbs x)
 neg-parts (pos n) e = absurd (true-false (ltb n 0) e (le-ltb n 0 (omega arith)))
 neg-parts (negsuc n) e = (tt, omega arith)
-
-pub not-neg : (x : ℤ) → ltZ x (pos 0) ≡ false → T (nonNeg x)
-not-neg (pos n) e = tt
-not-neg (negsuc n) e = absurd (true-false true refl e)
 
 -- what an index can be
 pub least-abs : (k : Kind) (mode : ℕ) → natAbs (least k mode) ≤ 15
@@ -160,6 +141,25 @@ few-at : (ts : List Table) → T (few ts) → (i : ℕ) → i < length ts → ge
 few-at [] e i h = absurd (omega arith)
 few-at (t ∷ ts) e zero h = leb→le (t .count) 61 (and-left (leb (t .count) 61) (few ts) e)
 few-at (t ∷ ts) e (suc i) h = few-at ts (and-right (leb (t .count) 61) (few ts) e) i (omega arith)
+
+-- and are among the 22
+pub table-below : (k : Kind) (mode time : ℕ) → differenceTable k mode time < 22
+unfolding differenceTable firstTable
+table-below k mode time = go k (eqb time 1)
+  where
+    add : (n : ℕ) (t : Bool) → n < 21 → n + pick t 1 0 < 22
+    add n true h = omega arith
+    add n false h = omega arith
+
+    first : (b : Bool) → pick b 14 12 < 21
+    first true = omega arith
+    first false = omega arith
+
+    go : (k : Kind) (t : Bool) → firstTable k mode + pick t 1 0 < 22
+    go Iid t = add (pick (fine mode) 14 12) t (first (fine mode))
+    go Icc t = add 16 t (omega arith)
+    go Ipd t = add 18 t (omega arith)
+    go Opd t = add 20 t (omega arith)
 
 pub entry-le : (table : ℕ) (s : List ℕ) (at end e next : ℕ) → 12 ≤ table → table ≤ 21 → wordOf (tableAt table) s at end ≡ got e next → e ≤ 60
 entry-le table s at end e next h g q =

@@ -1,11 +1,11 @@
 -- A row and the rows of a kind, case by case, with the code's answer on the left.
 -- Assumes nothing.
-use Prim.Native.Nat.{ℕ, zero, suc, _+_, _-_, _<_, _≤_}
-use mathlib.Core.Path.{_≡_, refl, sym, _∙_, ap}
+use Prim.Native.Nat.{ℕ}
+use mathlib.Core.Path.{_≡_, refl}
 use mathlib.Core.List.{List, [], _∷_, _++_}
-use mathlib.Core.Bool.{Bool, true, false}
+use mathlib.Core.Bool.{true, false}
 use lib.IntN.{ℤ}
-use Rattle.bits.specs.Reader.{Answer, got, refused}
+use Rattle.bits.specs.Reader.{got, refused}
 use Rattle.bits.specs.Field.{field}
 use Rattle.bits.specs.Answers.{endedAnswer}
 use Rattle.bits.specs.Loop.{counted, more, listed}

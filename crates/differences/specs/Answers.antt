@@ -1,5 +1,4 @@
 -- What the code's answers mean.
-use Prim.Native.Nat.{ℕ}
 use lib.IntN.{ℤ}
 use Rattle.bits.specs.Reader.{Answer, got, refused}
 use Rattle.differences.specs.declared.Index.{Index}

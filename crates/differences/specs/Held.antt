@@ -1,7 +1,7 @@
 -- A kind's record: none, or the mode it was coded in and its 34 indices.
 use Prim.Native.Nat.{ℕ, _+_}
 use mathlib.Core.List.{List, [], _∷_}
-use mathlib.Core.Bool.{Bool, true, false, _&&_, _||_}
+use mathlib.Core.Bool.{Bool, true, _&&_, _||_}
 use lib.Dec.{eqb, leb, ltb}
 use lib.ListN.{replicate}
 use lib.IntN.{ℤ, pos}

@@ -1,6 +1,6 @@
 -- A number of 16 bits, widened: it fits, and so does its negation; a number below 0 has a negation that is not.
 -- Assumes nothing.
-use Prim.Native.Nat.{ℕ, _≤_}
+use Prim.Native.Nat.{_≤_}
 use mathlib.Core.Path.{_≡_}
 use mathlib.Core.Bool.{true, false}
 use native.Mathlib.Omega.{arith}
@@ -8,22 +8,14 @@ use lib.Dec.{T}
 use borrow.Author.Tests.{ltb-true}
 use lib.IntN.{ℤ, pos, negsuc, negℤ, natAbs, _-ℤ_}
 use lib.Signed.{ltZ, nonNeg, natAbs-le}
-use mir.Syntax.{w8, w16, w64}
+use mir.Syntax.{w16, w64}
 use mir.Val.{SFits, Fits, toZ, ofZ}
 use mir.ValLaws.{toZ-ofZ}
-use Rattle.bits.proofs.Signed.{fits, thru, neg-fits, neg-is, abs-neg}
+use Rattle.bits.proofs.Signed.{fits, thru, neg-fits, neg-is, abs-neg, not-neg}
 
 below-not : (z : ℤ) → ltZ z (pos 0) ≡ true → T (nonNeg (negℤ z))
 below-not (pos n) e = let h = ltb-true n 0 e in absurd (omega arith)
 below-not (negsuc n) e = tt
-
-above-not : (z : ℤ) → ltZ z (pos 0) ≡ false → T (nonNeg z)
-above-not (pos n) e = tt
-above-not (negsuc n) e = let z : _≡_ {A = ℕ} 0 1 = cc in absurd (omega arith)
-
--- a number of 8 bits, widened
-pub widened-index : (z : ℤ) → SFits w8 z → SFits w16 (toZ w8 (ofZ w8 z))
-widened-index z f = fits 128 (rw (toZ-ofZ w8 z f) (natAbs-le z (f .sfits))) (omega arith)
 
 module _ (z : ℤ) (f : SFits w16 z) where
   small : natAbs (toZ w16 (ofZ w16 z)) ≤ 32768
@@ -54,4 +46,4 @@ module _ (z : ℤ) (f : SFits w16 z) where
       → T (nonNeg (toZ w64 (ofZ w64 (toZ w16 (ofZ w16 z))))) × Fits w64 (natAbs (toZ w64 (ofZ w64 (toZ w16 (ofZ w16 z)))))
   above e =
       let t : ltZ (toZ w16 (ofZ w16 z)) (pos 0) ≡ false = rw (← through) e in
-      rw through (above-not (toZ w16 (ofZ w16 z)) t, as-number (toZ w16 (ofZ w16 z)) small)
+      rw through (not-neg (toZ w16 (ofZ w16 z)) t, as-number (toZ w16 (ofZ w16 z)) small)

@@ -1,15 +1,14 @@
 -- What the reader's functions promise is one turn of a run each, and the stereo reader is steady.
 -- Assumes nothing.
 use Prim.Native.Nat.{ℕ}
-use mathlib.Core.Path.{_≡_, refl, _∙_, subst}
+use mathlib.Core.Path.{_≡_, refl, _∙_}
 use mathlib.Core.List.{List}
 use mathlib.Core.Bool.{Bool, true, false, _||_}
 use lib.Dec.{eqb}
-use borrow.Author.Tests.{eqb-true}
+use borrow.Author.Tests.{ne-eqb}
 use lib.ListN.{length}
 use Rattle.bits.specs.Reader.{Answer, got, refused, pick}
 use Rattle.bits.specs.Payload.{inBuffer, range, whole}
-use Rattle.bits.proofs.Bools.{true-false}
 use Rattle.stereo.specs.State.{sound, lost}
 use Rattle.stereo.specs.Payload.{payload}
 use Rattle.stereo.specs.Carried.{carried}
@@ -19,7 +18,7 @@ use Rattle.stereo.specs.declared.Contents.{Contents}
 use Rattle.stereo.proofs.StereoLaws.{fresh-sound, lost-sound}
 use Rattle.soundness.proofs.SoundLaws.{carried-sound}
 use Rattle.restarts.proofs.RestartLaws.{same-read, same-carried}
-use Rattle.writer.proofs.PayloadNumbers.{own, whole-own}
+use Rattle.writer.proofs.PayloadNumbers.{whole-not-0}
 use Rattle.runs.specs.Machine.{payload as given, missing as reporting, reported, turn, untouched, losing, accepted, judged as judging}
 use Rattle.runs.specs.Damage.{Steady}
 use Rattle.promises.specs.Run.{stereo, turnOf, reportOf}
@@ -34,19 +33,11 @@ steady = record {
   carried-sound = λ st s c n h e. carried-sound st s n c h e;
 }
 
--- a payload's refusal is not 0
-own-not-0 : (n : ℕ) → own n ≡ true → eqb n 0 ≡ false
-own-not-0 n e = go (eqb n 0) refl
-  where
-    go : (b : Bool) → eqb n 0 ≡ b → b ≡ false
-    go false q = refl
-    go true q = absurd (true-false (own 0) (subst (λ (k : ℕ). own k ≡ true) (eqb-true n 0 q) e) refl)
-
 -- a payload
 pub reads : (st : State) (b : List ℕ) (start end : ℕ) → turn stereo st (given b start end) ≡ turnOf (readFrom st b start end)
 unfolding readFrom readBytes taken
 reads st b start end =
-    go (inBuffer start end (length b)) (sound st) (whole (payload (from st)) (range b start end)) (λ n place q. own-not-0 n (whole-own (from st) (range b start end) n place q))
+    go (inBuffer start end (length b)) (sound st) (whole (payload (from st)) (range b start end)) (λ n place q. ne-eqb n 0 (whole-not-0 (from st) (range b start end) n place q))
   where
     step : (c : Contents) (n : ℕ) (t : Bool)
         → pick t (accepted stereo st c n) (losing stereo st 35)

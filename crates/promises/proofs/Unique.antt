@@ -5,11 +5,13 @@ use mathlib.Core.Path.{_≡_, sym, _∙_, ap}
 use mathlib.Core.List.{List}
 use mathlib.Core.Bool.{Bool}
 use lib.ListN.{length}
+use denote.Ref.{RefT}
 use Rattle.tag.specs.Image.{headerOf, partOf}
 use Rattle.tag.specs.declared.Header.{Header}
 use Rattle.tag.specs.declared.Part.{Part}
 use Rattle.held.specs.Took.{tookAt}
 use Rattle.held.specs.declared.Took.{Took}
+use Rattle.held.specs.declared.Held.{Held}
 use Rattle.stereo.specs.State.{fresh, sound}
 use Rattle.stereo.specs.Stereo.{readFrom, missing}
 use Rattle.stereo.specs.declared.State.{State}
@@ -63,3 +65,10 @@ one-part image k r r′ p q = p ∙ sym q
 pub one-field : (bytes : List ℕ) (at n : ℕ) (t t′ : Took) (next next′ : ℕ) → (t ≡ tookAt bytes at n) × (next ≡ t .next) → (t′ ≡ tookAt bytes at n) × (next′ ≡ t′ .next)
     → (t ≡ t′) × (next ≡ next′)
 one-field bytes at n t t′ next next′ p q = let e = p .0 ∙ sym (q .0) in (e, p .1 ∙ ap (λ (t : Took). t .next) e ∙ sym (q .1))
+
+-- of the held bit reader itself: the slice, which is the one that was passed, and the place
+pub one-held : (src : RefT (List ℕ)) (r r′ : Held) → (r .src ≡ src) × (r .at ≡ 0) → (r′ .src ≡ src) × (r′ .at ≡ 0) → r ≡ r′
+one-held src r r′ p q =
+    let e = p .0 ∙ sym (q .0) in
+    let f = p .1 ∙ sym (q .1) in
+    λ i. record { src = e i; at = f i }

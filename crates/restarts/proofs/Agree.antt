@@ -7,36 +7,20 @@ use mathlib.Core.Bool.{Bool, true, false}
 use Rattle.bits.specs.Reader.{Reader, got, give, _>>=_, pick}
 use Rattle.bits.specs.Loop.{counted, more, listed}
 use Rattle.bits.specs.Inside.{renumbered, inside}
-use Rattle.bits.proofs.Lawful.{split}
+use Rattle.bits.proofs.Lawful.{split, same-value}
+use Rattle.bits.proofs.Gives.{Gives, give-gives, then-gives, counted-gives}
 use Rattle.bits.proofs.LoopLaws.{more-got}
 use Rattle.bits.proofs.InsideLaws.{inside-got, inside-there}
 
-same-value : {A : Type 0} {a b : A} {m n : ℕ} → got a m ≡ got b n → a ≡ b
-same-value e = cc
-
 pub record Agree {A : Type 0} (r q : Reader A) (P : A → Type 0) : Type 0 where
   pub law : (s : List ℕ) (at end next : ℕ) (a : A) → r s at end ≡ got a next → P a → q s at end ≡ got a next
-
--- what is known of every value that a reader gives
-pub record Gives {A : Type 0} (r : Reader A) (R : A → Type 0) : Type 0 where
-  pub law : (s : List ℕ) (at end next : ℕ) (a : A) → r s at end ≡ got a next → R a
-
-pub give-gives : {A : Type 0} {a : A} {R : A → Type 0} → R a → Gives (give a) R
-give-gives {R = R} x = record { law = λ s at end next b e. subst R (same-value e) x }
-
-pub bind-gives : {A B : Type 0} (r : Reader A) {k : A → Reader B} {R : B → Type 0} → ((a : A) → Gives (k a) R) → Gives (r >>= k) R
-bind-gives r {k = k} g = record {
-  law = λ s at end next b e.
-      let w = split (r s at end) k s end next b e in
-      g (w .0) .law s (w .1) end next b (w .3);
-}
 
 pub same-agree : {A : Type 0} {r : Reader A} {P : A → Type 0} → Agree r r P
 same-agree = record { law = λ s at end next a e p. e }
 
 -- one reading after another: what is known of the value in the end is known of the value between
 pub bind-agree : {A B : Type 0} {r q : Reader A} {k l : A → Reader B} {P : A → Type 0} {Q : B → Type 0}
-    → Agree r q P → ((a : A) → Gives (k a) (λ b. Q b → P a)) → ((a : A) → P a → Agree (k a) (l a) Q) → Agree (r >>= k) (q >>= l) Q
+    → Agree r q P → ((a : A) → Gives (λ b. Q b → P a) (k a)) → ((a : A) → P a → Agree (k a) (l a) Q) → Agree (r >>= k) (q >>= l) Q
 bind-agree {r = r} {k = k} g p h = record {
   law = λ s at end next b e z.
       let w = split (r s at end) k s end next b e in
@@ -65,19 +49,13 @@ inside-agree {A} n short {r} {q} g = record {
 
 module _ {A : Type 0} where
   -- what is read goes on from what was there
-  more-first : (f : List A → Reader A) (i : ℕ) (x : A) (xs : List A) → Gives (more f i (x ∷ xs)) (λ ys. (zs : List A) × (ys ≡ x ∷ zs))
-  more-first f i x xs = bind-gives (f (x ∷ xs)) λ y. give-gives (xs ++ y ∷ [], refl)
+  more-first : (f : List A → Reader A) (i : ℕ) (x : A) (xs : List A) → Gives (λ ys. (zs : List A) × (ys ≡ x ∷ zs)) (more f i (x ∷ xs))
+  more-first f i x xs = then-gives (f (x ∷ xs)) λ y. give-gives (xs ++ y ∷ [], refl)
 
-  each-first : (f : List A → Reader A) (n i : ℕ) (x : A) (xs : List A) → Gives (counted i n (more f) (x ∷ xs)) (λ ys. (zs : List A) × (ys ≡ x ∷ zs))
-  unfolding counted
-  each-first f zero i x xs = give-gives (xs, refl)
-  each-first f (suc n) i x xs = record {
-    law = λ s at end next ys e.
-        let w = split (more f i (x ∷ xs) s at end) (counted (i + 1) n (more f)) s end next ys e in
-        let z = more-first f i x xs .law s at end (w .1) (w .0) (w .2) in
-        each-first f n (i + 1) x (z .0) .law s (w .1) end next ys
-        (subst (λ (l : List A). counted (i + 1) n (more f) l s (w .1) end ≡ got ys next) (z .1) (w .3));
-  }
+  each-first : (f : List A → Reader A) (n i : ℕ) (x : A) (xs : List A) → Gives (λ ys. (zs : List A) × (ys ≡ x ∷ zs)) (counted i n (more f) (x ∷ xs))
+  each-first f n i x xs =
+      counted-gives (λ i ys. (zs : List A) × (ys ≡ x ∷ zs)) {f = more f}
+      (λ i ys z. then-gives (f ys) λ y. give-gives (z .0 ++ y ∷ [], ap (λ (l : List A). l ++ y ∷ []) (z .1))) i n (x ∷ xs) (xs, refl)
 
   each-rest : (f g : List A → Reader A) → ((x : A) (xs : List A) → g (x ∷ xs) ≡ f (x ∷ xs)) → (n i : ℕ) (x : A) (xs : List A)
       → Agree (counted i n (more f) (x ∷ xs)) (counted i n (more g) (x ∷ xs)) (λ ys. Unit)

@@ -15,6 +15,7 @@ use Rattle.bits.specs.Inside.{leftOver}
 use Rattle.bits.specs.Payload.{whole}
 use Rattle.bits.proofs.Bools.{and-both}
 use Rattle.bits.proofs.Lawful.{tested-got}
+use Rattle.bits.proofs.Gives.{Gives, give-gives, then-gives}
 use Rattle.bits.proofs.PayloadLaws.{whole-got, whole-is}
 use Rattle.differences.specs.Indices.{padded, reference, index, indices}
 use Rattle.differences.specs.Rows.{noRow, heldAfter, allowed, row, rowsOf, rows}
@@ -35,7 +36,7 @@ use Rattle.stereo.specs.declared.Frame.{Frame}
 use Rattle.stereo.specs.declared.Phases.{Phases}
 use Rattle.stereo.specs.declared.Contents.{Contents}
 use Rattle.restarts.specs.Restarting.{Restart}
-use Rattle.restarts.proofs.Agree.{Agree, Gives, give-gives, bind-gives, same-agree, bind-agree, then-agree, pick-agree, inside-agree, first-agree}
+use Rattle.restarts.proofs.Agree.{Agree, same-agree, bind-agree, then-agree, pick-agree, inside-agree, first-agree}
 
 -- across frequency the record does not count
 indices-agree : (k : Kind) (mode : ℕ) (xs ys : List ℤ) → indices k mode 0 ys ≡ indices k mode 0 xs
@@ -45,7 +46,7 @@ indices-agree k mode xs ys = refl
 row-agree : (k : Kind) (mode : ℕ) (h h′ : Held) → Agree (row k mode h) (row k mode h′) (λ r. r .time ≡ 0)
 unfolding row
 row-agree k mode h h′ =
-    bind-agree {P = λ t. t ≡ 0} time-agree (λ t. bind-gives (indices k mode t (h .indices)) λ xs. give-gives λ z. z) λ t z.
+    bind-agree {P = λ t. t ≡ 0} time-agree (λ t. then-gives (indices k mode t (h .indices)) λ xs. give-gives λ z. z) λ t z.
     subst
     (λ (t : ℕ). Agree {A = Row} (indices k mode t (h .indices) >>= λ xs. give (record { time = t; indices = xs })) (indices k mode t (h′ .indices) >>= λ xs. give (record { time = t; indices = xs })) (λ r. r .time ≡ 0))
     (sym z) (record { law = λ s at end next c e p. rw (indices-agree k mode (h .indices) (h′ .indices)) e })
@@ -74,7 +75,7 @@ next-agree : (mode : ℕ) (ipd ipd′ opd opd′ : Held)
     → Agree (phasesNext mode ipd opd []) (phasesNext mode ipd′ opd′ []) (λ p. (p .ipd .time ≡ 0) × (p .opd .time ≡ 0))
 unfolding phasesIn
 next-agree mode ipd ipd′ opd opd′ =
-    bind-agree (row-agree Ipd mode ipd ipd′) (λ a. bind-gives (row Opd mode opd) λ b. give-gives λ z. z .0) λ a _.
+    bind-agree (row-agree Ipd mode ipd ipd′) (λ a. then-gives (row Opd mode opd) λ b. give-gives λ z. z .0) λ a _.
     bind-agree (row-agree Opd mode opd opd′) (λ b. give-gives λ z. z .1) λ b _. same-agree
 
 abbrev begin : List Phases → Bool
@@ -106,12 +107,12 @@ v0-agree : (mode : ℕ) (ipd ipd′ opd opd′ : Held) (n : ℕ) → Agree (v0 m
 unfolding v0 phasesAcross
 v0-agree mode ipd ipd′ opd opd′ n =
     then-agree (phaseFlag mode) λ phase.
-    bind-agree (phases-agree phase mode ipd ipd′ opd opd′ n) (λ ps. bind-gives (zeroBit 13) λ reserved. give-gives λ z. z) λ ps _. same-agree
+    bind-agree (phases-agree phase mode ipd ipd′ opd opd′ n) (λ ps. then-gives (zeroBit 13) λ reserved. give-gives λ z. z) λ ps _. same-agree
 
 part-agree : (mode : ℕ) (ipd ipd′ opd opd′ : Held) (n : ℕ) → Agree (part mode ipd opd n) (part mode ipd′ opd′ n) (λ p. phasesAcross (p .body) ≡ true)
 unfolding part
 part-agree mode ipd ipd′ opd opd′ n =
-    bind-agree (v0-agree mode ipd ipd′ opd opd′ n) (λ b. bind-gives (leftOver 7 another) λ fill. give-gives λ z. z) λ b _. same-agree
+    bind-agree (v0-agree mode ipd ipd′ opd opd′ n) (λ b. then-gives (leftOver 7 another) λ fill. give-gives λ z. z) λ b _. same-agree
 
 extension-agree : (on : Bool) (mode : ℕ) (ipd ipd′ opd opd′ : Held) (n : ℕ)
     → Agree (extension on mode ipd opd n) (extension on mode ipd′ opd′ n) (λ x. phasesAcross (x .part .body) ≡ true)
@@ -142,17 +143,17 @@ envelopes-agree : (st st′ : State) (h : Header) (f : Setup) (fr : Frame) → A
 unfolding envelopes
 envelopes-agree st st′ h f fr =
     bind-agree (rows-agree Iid (f .iid) (f .iidmode) (st .iid) (st′ .iid) (fr .envelopes))
-    (λ iid. bind-gives (rows Icc (f .icc) (f .iccmode) (st .icc) (fr .envelopes)) λ icc. bind-gives (extension (f .ext) (f .iidmode) (st .ipd) (st .opd) (fr .envelopes)) λ x. give-gives λ z. z .iid) λ iid _.
+    (λ iid. then-gives (rows Icc (f .icc) (f .iccmode) (st .icc) (fr .envelopes)) λ icc. then-gives (extension (f .ext) (f .iidmode) (st .ipd) (st .opd) (fr .envelopes)) λ x. give-gives λ z. z .iid) λ iid _.
     bind-agree (rows-agree Icc (f .icc) (f .iccmode) (st .icc) (st′ .icc) (fr .envelopes))
-    (λ icc. bind-gives (extension (f .ext) (f .iidmode) (st .ipd) (st .opd) (fr .envelopes)) λ x. give-gives λ z. z .icc) λ icc _.
+    (λ icc. then-gives (extension (f .ext) (f .iidmode) (st .ipd) (st .opd) (fr .envelopes)) λ x. give-gives λ z. z .icc) λ icc _.
     bind-agree (extension-agree (f .ext) (f .iidmode) (st .ipd) (st′ .ipd) (st .opd) (st′ .opd) (fr .envelopes)) (λ x. give-gives λ z. z .phases) λ x _. same-agree
 
-envelopes-header : (st : State) (h : Header) (f : Setup) (fr : Frame) → Gives (envelopes st h f fr) (λ c. c .header ≡ h)
+envelopes-header : (st : State) (h : Header) (f : Setup) (fr : Frame) → Gives (λ c. c .header ≡ h) (envelopes st h f fr)
 unfolding envelopes
 envelopes-header st h f fr =
-    bind-gives (rows Iid (f .iid) (f .iidmode) (st .iid) (fr .envelopes)) λ iid.
-    bind-gives (rows Icc (f .icc) (f .iccmode) (st .icc) (fr .envelopes)) λ icc.
-    bind-gives (extension (f .ext) (f .iidmode) (st .ipd) (st .opd) (fr .envelopes)) λ x. give-gives refl
+    then-gives (rows Iid (f .iid) (f .iidmode) (st .iid) (fr .envelopes)) λ iid.
+    then-gives (rows Icc (f .icc) (f .iccmode) (st .icc) (fr .envelopes)) λ icc.
+    then-gives (extension (f .ext) (f .iidmode) (st .ipd) (st .opd) (fr .envelopes)) λ x. give-gives refl
 
 payload-agree : (st st′ : State) → Agree (payload st) (payload st′) Restart
 unfolding payload

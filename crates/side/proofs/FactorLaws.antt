@@ -12,7 +12,7 @@ use Rattle.bits.specs.declared.Field.{Field}
 use Rattle.bits.proofs.LoopLaws.{counted-start, counted-more, counted-stop, counted-done}
 use Rattle.tables.specs.Words.{allLens}
 use Rattle.tables.specs.Tables.{wordOf, lensOf}
-use Rattle.tables.specs.Names.{scaleFactor, tableAt}
+use Rattle.tables.specs.Names.{scaleFactor}
 use Rattle.tables.proofs.Rules.{spelt-at}
 use Rattle.side.specs.Factors.{Factors, factor, bandFactor, firstFactors}
 use Rattle.side.specs.Answers.{factorAnswer}

@@ -1,14 +1,14 @@
 -- What the code of the pulses cites: a pulse by what its fields are, and what is left of the loop.
 -- Assumes nothing.
 use Prim.Native.Nat.{ℕ, zero, suc, _+_, _-_, _<_, _≤_}
-use mathlib.Core.Path.{_≡_, refl, sym, _∙_, ap}
+use mathlib.Core.Path.{_≡_, sym, _∙_, ap}
 use mathlib.Core.List.{List, [], _∷_}
 use mathlib.Core.Bool.{Bool, true, false}
 use native.Mathlib.Omega.{arith}
-use lib.Dec.{leb, ltb, eqb}
+use lib.Dec.{leb, ltb}
 use lib.ListN.{length, getD, set, replicate}
-use borrow.Author.Tests.{le-leb, lt-leb, leb-true, lt-ltb, le-ltb, ltb-true, eq-eqb, ne-eqb}
-use Rattle.bits.specs.Reader.{Answer, got, refused, Reader, give, pick, after, tested, _>>=_}
+use borrow.Author.Tests.{le-leb, lt-leb, leb-true, lt-ltb, le-ltb, ltb-true}
+use Rattle.bits.specs.Reader.{Answer, got, refused, Reader, give, tested, _>>=_}
 use Rattle.bits.specs.Field.{field}
 use Rattle.bits.specs.Places.{here}
 use Rattle.bits.specs.Loop.{counted}

@@ -2,7 +2,7 @@
 -- Assumes nothing.
 use Prim.Native.Nat.{ℕ, zero, suc, _+_, _*_, _-_, _%_, _<_, _≤_, _^_}
 use mathlib.Core.Path.{_≡_, refl, sym, _∙_, ap}
-use mathlib.Core.List.{List, [], _∷_}
+use mathlib.Core.List.{List, _∷_}
 use mathlib.Core.Bool.{Bool, true, false, _&&_}
 use native.Mathlib.Omega.{arith}
 use native.Mathlib.Nat.{mod-eq-of-lt, one-mul}
@@ -10,11 +10,11 @@ use lib.Pow.{pow-mono}
 use lib.ListN.{set}
 use lib.Dec.{eqb, ltb, leb}
 use borrow.Author.Tests.{ltb-true, leb-true, lt-ltb, le-ltb, le-leb, lt-leb, eq-eqb, ne-eqb}
-use Rattle.bits.specs.Reader.{Answer, got, refused, Reader, give, pick, tested, after, _>>=_}
+use Rattle.bits.specs.Reader.{got, refused, Reader, give, pick, tested, _>>=_}
 use Rattle.bits.specs.Field.{field}
 use Rattle.bits.specs.Loop.{counted}
 use Rattle.bits.proofs.Bools.{and-both}
-use Rattle.bits.proofs.Lawful.{never, split, tested-got}
+use Rattle.bits.proofs.Lawful.{never, split, tested-got, after-give}
 use Rattle.spectrum.specs.Grouping.{groupsAfter, groupsOf}
 use Rattle.side.specs.Sections.{increments, sectionLength, fill, section, nextSection, groupSections, groupBooks, widthOf}
 
@@ -127,10 +127,6 @@ module _ (sfbs bits base from : ℕ) (books s : List ℕ) (at end : ℕ) where
   unfolding groupBooks groupsAfter
   books-done h = let q : 8 - from ≡ 0 = omega arith in rw q
 
-same : {A : Type 0} (x : Answer A) (s : List ℕ) (end : ℕ) → after x give s end ≡ x
-same (got a m) s end = refl
-same (refused n p) s end = refl
-
 module _ (short : Bool) (sfbs bits : ℕ) (books s : List ℕ) (at end : ℕ) where
   pub books-short : short ≡ true → groupBooks (widthOf short) sfbs (groupsOf short bits) 0 books s at end ≡ groupBooks 3 sfbs (groupsAfter (8 - 0) bits) 0 books s at end
   unfolding groupsOf widthOf
@@ -138,4 +134,4 @@ module _ (short : Bool) (sfbs bits : ℕ) (books s : List ℕ) (at end : ℕ) wh
 
   pub books-long : short ≡ false → groupSections 5 sfbs 0 books s at end ≡ groupBooks (widthOf short) sfbs (groupsOf short bits) 0 books s at end
   unfolding groupBooks groupsOf widthOf
-  books-long e = rw e (sym (same (groupSections 5 sfbs 0 books s at end) s end))
+  books-long e = rw e (sym (after-give (groupSections 5 sfbs 0 books s at end) s end))

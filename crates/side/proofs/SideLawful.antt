@@ -1,13 +1,13 @@
 -- The reading laws of window information, sections, scale factors and pulses: their parts have them, and the ways of putting readers together keep them.
 -- Assumes nothing.
-use Prim.Native.Nat.{ℕ, zero, suc, _+_, _≤_, _<_}
+use Prim.Native.Nat.{ℕ, zero, suc}
 use mathlib.Core.Path.{_≡_, refl}
 use mathlib.Core.List.{List, [], _∷_}
 use mathlib.Core.Bool.{Bool, true, false}
 use lib.Dec.{leb}
 use lib.IntN.{ℤ, natAbs}
 use native.Mathlib.Omega.{arith}
-use Rattle.bits.specs.Reader.{Answer, got, refused, Reader, pick}
+use Rattle.bits.specs.Reader.{got, refused, pick}
 use Rattle.bits.proofs.Lawful.{Lawful, never, bind-lawful, give-lawful, refuse-lawful, pick-lawful, expecting-lawful}
 use Rattle.bits.proofs.FieldLaws.{field-lawful, zeroBit-lawful}
 use Rattle.bits.proofs.LoopLaws.{counted-lawful}

@@ -11,7 +11,6 @@ use Rattle.bits.specs.Field.{field}
 use Rattle.bits.specs.Loop.{counted}
 use Rattle.bits.specs.Places.{here}
 use Rattle.spectrum.specs.Bands.{bands, bandCount, firstLine}
-use Rattle.side.specs.Window.{Window, isShort}
 
 -- how many there are, and in four places the line, the amplitude and the place of each
 pub record Pulses : Type 0 where

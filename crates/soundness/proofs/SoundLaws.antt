@@ -3,21 +3,20 @@
 use Prim.Native.Nat.{ℕ, zero, suc, _+_, _*_, _-_, _<_, _≤_}
 use mathlib.Core.Path.{_≡_, refl, subst}
 use mathlib.Core.List.{List, [], _∷_, _++_}
-use mathlib.Core.Bool.{Bool, true, false, not, _&&_, _||_}
+use mathlib.Core.Bool.{Bool, true, false, not, _||_}
 use native.Mathlib.Omega.{arith}
-use borrow.Author.Tests.{leb-true, eqb-true, ne-eqb, lt-ltb}
+use borrow.Author.Tests.{leb-true, eqb-true, ne-eqb, lt-ltb, not-true}
 use lib.Dec.{eqb, leb, ltb}
-use lib.ListN.{length, getD, replicate, length-append}
+use lib.ListN.{length, getD, replicate}
 use lib.IntN.{ℤ, pos, negsuc}
 use Rattle.bits.specs.Reader.{got, Reader, give, _>>=_, pick, expecting}
 use Rattle.bits.specs.Field.{field, zeroBit}
-use Rattle.bits.specs.Loop.{counted, more, listed}
-use Rattle.bits.specs.Inside.{inside, leftOver}
+use Rattle.bits.specs.Loop.{listed}
+use Rattle.bits.specs.Inside.{leftOver}
 use Rattle.bits.specs.Payload.{whole}
-use Rattle.bits.proofs.Bools.{and-both, true-false}
-use Rattle.bits.proofs.Lawful.{split, tested-got}
-use Rattle.bits.proofs.Spelt.{Every}
-use Rattle.bits.proofs.InsideLaws.{inside-got}
+use Rattle.bits.proofs.Bools.{and-both, true-false, and-of}
+use Rattle.bits.proofs.Spelt.{Every, every-append}
+use Rattle.bits.proofs.Gives.{Gives, give-gives, bind-gives, then-gives, map-gives, pick-gives, expecting-gives, inside-gives, listed-gives}
 use Rattle.bits.proofs.PayloadLaws.{whole-got}
 use Rattle.differences.specs.Kind.{fine, bands, least, most, within, inRange}
 use Rattle.differences.specs.Held.{zeros, isNone, held, none, soundMode, heldBands, soundIndex, soundFrom, soundHeld}
@@ -28,7 +27,6 @@ use Rattle.differences.specs.declared.Kind.the-variants.{Iid, Icc, Ipd, Opd}
 use Rattle.differences.specs.declared.Held.{Held}
 use Rattle.differences.specs.declared.Row.{Row}
 use Rattle.differences.proofs.IndexLaws.{index-ranged}
-use Rattle.differences.proofs.KindLaws.{not-true}
 use Rattle.stereo.specs.State.{isSent, soundSetup, sound}
 use Rattle.stereo.specs.Header.{noHeader, mode, headerFields, header, setupAfter}
 use Rattle.stereo.specs.Frame.{frame}
@@ -44,19 +42,11 @@ use Rattle.stereo.specs.declared.Part.{Part}
 use Rattle.stereo.specs.declared.Extension.{Extension}
 use Rattle.stereo.specs.declared.Contents.{Contents}
 
-and-of : (a b : Bool) → a ≡ true → b ≡ true → (a && b) ≡ true
-and-of true b p q = q
-and-of false b p q = p
-
 or-left : (a b : Bool) → a ≡ true → (a || b) ≡ true
 or-left true b p = refl
 or-left false b p = absurd (true-false false p refl)
 
 -- what each element has
-every-append : {A : Type 0} (P : A → Type 0) (xs ys : List A) → Every P xs → Every P ys → Every P (xs ++ ys)
-every-append P [] ys p q = q
-every-append P (x ∷ xs) ys p q = (p .0, every-append P xs ys (p .1) q)
-
 every-replicate : {A : Type 0} (P : A → Type 0) (n : ℕ) (x : A) → P x → Every P (replicate n x)
 every-replicate P zero x p = tt
 every-replicate P (suc n) x p = (p, every-replicate P n x p)
@@ -66,58 +56,11 @@ every-at P [] i d p q = q
 every-at P (x ∷ xs) zero d p q = p .0
 every-at P (x ∷ xs) (suc i) d p q = every-at P xs i d (p .1) q
 
--- everything that a reader gives has a property
-record Gives {A : Type 0} (P : A → Type 0) (r : Reader A) : Type 0 where
-  pub law : (s : List ℕ) (at end next : ℕ) (a : A) → r s at end ≡ got a next → P a
-
-give-gives : {A : Type 0} (P : A → Type 0) {a : A} → P a → Gives P (give a)
-give-gives P {a} p = record { law = λ s at end next b e. let q : a ≡ b = cc in subst P q p }
-
-bind-gives : {A B : Type 0} {P : A → Type 0} {Q : B → Type 0} {r : Reader A} {k : A → Reader B} → Gives P r → ((a : A) → P a → Gives Q (k a)) → Gives Q (r >>= k)
-bind-gives {r = r} {k = k} g f = record {
-  law = λ s at end next b e.
-      let w = split (r s at end) k s end next b e in
-      f (w .0) (g .law s at end (w .1) (w .0) (w .2)) .law s (w .1) end next b (w .3);
-}
-
-then-gives : {A B : Type 0} {Q : B → Type 0} (r : Reader A) {k : A → Reader B} → ((a : A) → Gives Q (k a)) → Gives Q (r >>= k)
-then-gives r f = bind-gives {P = λ a. Unit {0}} {r = r} (record { law = λ s at end next a e. tt }) (λ a p. f a)
-
-pick-gives : {A : Type 0} {P : A → Type 0} (b : Bool) {r q : Reader A} → (b ≡ true → Gives P r) → Gives P q → Gives P (pick b r q)
-pick-gives true f g = f refl
-pick-gives false f g = g
-
-expecting-gives : {A : Type 0} (n : ℕ) (ok : A → Bool) (r : Reader A) → Gives (λ a. ok a ≡ true) (expecting n ok r)
-expecting-gives n ok r = record { law = λ s at end next a e. tested-got (r s at end) n ok at next a e .1 }
-
-inside-gives : {A : Type 0} {P : A → Type 0} (n short : ℕ) (r : Reader A) → Gives P r → Gives P (inside n short r)
-inside-gives n short r g = record { law = λ s at end next a e. g .law s at (at + n) next a (inside-got n short r s at end next a e .1) }
-
-module _ {A : Type 0} (P : A → Type 0) (f : List A → Reader A) (g : (xs : List A) → Gives P (f xs)) where
-  -- so many, each with the property
-  abbrev Long : ℕ → List A → Type 0
-  Long n xs = (length xs ≡ n) × Every P xs
-
-  counted-gives : (i n : ℕ) (xs : List A) → Every P xs → Gives (Long (length xs + n)) (counted i n (more f) xs)
-  unfolding counted
-  counted-gives i zero xs p = give-gives (Long (length xs + 0)) (omega arith, p)
-  counted-gives i (suc n) xs p =
-      bind-gives {r = more f i xs} (bind-gives {r = f xs} (g xs) (λ x q. give-gives (Long (length xs + 1)) (length-append xs (x ∷ []), every-append P xs (x ∷ []) p (q, tt))))
-      λ ys q. record {
-        law = λ s at end next zs e. let w = counted-gives (i + 1) n ys (q .1) .law s at end next zs e in (omega (arith, q .0, w .0), w .1);
-      }
-
-  listed-gives : (n : ℕ) → Gives (Long n) (listed n f)
-  unfolding listed
-  listed-gives n = record {
-    law = λ s at end next ys e. let w = counted-gives 0 n [] tt .law s at end next ys e in (omega (arith, w .0), w .1);
-  }
-
-  -- n readings, filled up
-  padded-gives : (z : A) (m n : ℕ) → P z → Gives (Every P) (listed n f >>= λ xs. give (padded m z xs))
-  padded-gives z m n p =
-      bind-gives (listed-gives n)
-      λ xs q. give-gives (Every P) (every-append P xs (replicate (m - length xs) z) (q .1) (every-replicate P (m - length xs) z p))
+-- n readings, filled up
+padded-gives : {A : Type 0} (P : A → Type 0) (f : List A → Reader A) → ((xs : List A) → Gives P (f xs)) → (z : A) (m n : ℕ) → P z
+    → Gives (Every P) (listed n f >>= λ xs. give (padded m z xs))
+padded-gives P f g z m n p =
+    map-gives (padded m z) (listed-gives P f g n) λ xs q. every-append P xs (replicate (m - length xs) z) (q .1) (every-replicate P (m - length xs) z p)
 
 -- 0 is in every range
 ranged : (k : Kind) (m : ℕ) → inRange k m (pos 0) ≡ true
@@ -169,21 +112,21 @@ module _ (k : Kind) (m : ℕ) where
     indices-gives : (time : ℕ) (before : List ℤ) → Gives (λ xs. soundFrom k m 0 xs ≡ true) (indices k m time before)
     unfolding indices index
     indices-gives time before =
-        bind-gives
+        map-gives (padded 34 (pos 0))
         (listed-gives (λ x. inRange k m x ≡ true) (index k m time before)
         (λ xs. record { law = λ s at end next y e. index-ranged k m time s at end (reference time before xs) y next e }) (bands k m))
-        λ xs p. give-gives (λ ys. soundFrom k m 0 ys ≡ true) (filled-sound 0 (34 - length xs) xs o (omega (arith, p .0)) (p .1))
+        λ xs p. filled-sound 0 (34 - length xs) xs o (omega (arith, p .0)) (p .1)
 
     row-gives : (h : Held) → Gives SoundRow (row k m h)
     unfolding row
     row-gives h =
-        then-gives (expecting 31 (allowed (h .mode) m) (field 1)) λ time. bind-gives (indices-gives time (h .indices)) (λ xs p. give-gives SoundRow p)
+        then-gives (expecting 31 (allowed (h .mode) m) (field 1)) λ time. bind-gives (indices-gives time (h .indices)) (λ xs p. give-gives p)
 
   rows-gives : (on : Bool) (h : Held) (n : ℕ) → (on ≡ true → isNone m ≡ false) → Gives (Every SoundRow) (rows k on m h n)
   unfolding rows rowsOf noRows
   rows-gives on h n o =
       pick-gives on (λ e. padded-gives SoundRow (λ rs. row k m (heldAfter h m rs)) (λ rs. row-gives (o e) (heldAfter h m rs)) noRow 4 n no-row)
-      (give-gives (Every SoundRow) (every-replicate SoundRow 4 noRow no-row))
+      (λ e. give-gives (every-replicate SoundRow 4 noRow no-row))
 
 module _ (m : ℕ) where
   abbrev SoundPhases : Phases → Type 0
@@ -212,40 +155,40 @@ module _ (m : ℕ) where
 
   phasesIn-gives : isNone m ≡ false → (ipd opd : Held) → Gives SoundPhases (phasesIn m ipd opd)
   unfolding phasesIn
-  phasesIn-gives o ipd opd = bind-gives (row-gives Ipd m o ipd) λ a p. bind-gives (row-gives Opd m o opd) (λ b q. give-gives SoundPhases (p, q))
+  phasesIn-gives o ipd opd = bind-gives (row-gives Ipd m o ipd) λ a p. bind-gives (row-gives Opd m o opd) (λ b q. give-gives (p, q))
 
   module _ (ipd opd : Held) (n : ℕ) where
     phases-gives : (on : ℕ) → (eqb on 1 ≡ true → isNone m ≡ false) → Gives (Every SoundPhases) (phases on m ipd opd n)
     unfolding phases phasesOf
     phases-gives on o =
         pick-gives (eqb on 1) (λ e. padded-gives SoundPhases (phasesNext m ipd opd) (λ ps. phasesIn-gives (o e) _ _) noPhases 4 n no-phases)
-        (give-gives (Every SoundPhases) (every-replicate SoundPhases 4 noPhases no-phases))
+        (λ e. give-gives (every-replicate SoundPhases 4 noPhases no-phases))
 
     v0-gives : Gives SoundBody (v0 m ipd opd n)
     unfolding v0 phaseFlag
     v0-gives =
         bind-gives (then-gives (expecting 13 (λ v. eqb v 0) (field 2)) (λ id. expecting-gives 34 (hasMode m) (field 1)))
         λ on p. bind-gives (phases-gives on (flag-mode on p))
-        λ ps q. then-gives (zeroBit 13) (λ z. give-gives SoundBody q)
+        λ ps q. then-gives (zeroBit 13) (λ z. give-gives q)
 
     part-gives : Gives SoundPart (part m ipd opd n)
     unfolding part
-    part-gives = bind-gives v0-gives λ b p. then-gives (leftOver 7 another) (λ fill. give-gives SoundPart p)
+    part-gives = bind-gives v0-gives λ b p. then-gives (leftOver 7 another) (λ fill. give-gives p)
 
     announced-gives : (size : ℕ) → Gives SoundPart (announced m ipd opd n size)
     unfolding announced noPart
-    announced-gives size = pick-gives (eqb size 0) (λ e. give-gives SoundPart no-body) (inside-gives (8 * size) 33 (part m ipd opd n) part-gives)
+    announced-gives size = pick-gives (eqb size 0) (λ e. give-gives no-body) (λ e. inside-gives (8 * size) 33 (part m ipd opd n) part-gives)
 
     extension-gives : (on : Bool) → Gives SoundExtension (extension on m ipd opd n)
     unfolding extension extensionSent noExtension noPart
     extension-gives on =
-        pick-gives on (λ e. then-gives (field 4) λ size. then-gives (escCount size) λ esc. bind-gives (announced-gives (size + esc)) (λ p q. give-gives SoundExtension q))
-        (give-gives SoundExtension no-body)
+        pick-gives on (λ e. then-gives (field 4) λ size. then-gives (escCount size) λ esc. bind-gives (announced-gives (size + esc)) (λ p q. give-gives q))
+        (λ e. give-gives no-body)
 
 -- a mode that is read is at most 5
 mode-gives : (on : ℕ) → Gives (λ m. leb m 5 ≡ true) (mode on)
 unfolding mode
-mode-gives on = pick-gives (eqb on 1) (λ e. expecting-gives 13 (λ m. leb m 5) (field 3)) (give-gives (λ m. leb m 5 ≡ true) refl)
+mode-gives on = pick-gives (eqb on 1) (λ e. expecting-gives 13 (λ m. leb m 5) (field 3)) (λ e. give-gives refl)
 
 abbrev Modes : Header → Type 0
 Modes h = (leb (h .iidmode) 5 ≡ true) × (leb (h .iccmode) 5 ≡ true)
@@ -256,8 +199,8 @@ header-gives =
     then-gives (field 1) λ there. pick-gives (eqb there 1)
     (λ e. then-gives (field 1) λ iid. bind-gives (mode-gives iid)
     λ a p. then-gives (field 1) λ icc. bind-gives (mode-gives icc)
-    λ b q. then-gives (field 1) (λ ext. give-gives Modes (p, q)))
-    (give-gives Modes (refl, refl))
+    λ b q. then-gives (field 1) (λ ext. give-gives (p, q)))
+    (λ e. give-gives (refl, refl))
 
 -- the set-up
 mode-sound : (b : Bool) (new old : ℕ) → leb new 5 ≡ true → soundMode old ≡ true → soundMode (pick b new old) ≡ true
@@ -326,7 +269,7 @@ payload-gives st p =
     bind-gives (rows-gives Iid (f .iidmode) (f .iid) (st .iid) n (on-mode (f .iid) (f .iidmode) (u .iid)))
     λ iid a. bind-gives (rows-gives Icc (f .iccmode) (f .icc) (st .icc) n (on-mode (f .icc) (f .iccmode) (u .icc)))
     λ icc b. bind-gives (extension-gives (f .iidmode) (st .ipd) (st .opd) n (f .ext))
-    λ x c. give-gives (Good (st .setup)) (u, record { iid = a; icc = b; extension = c })
+    λ x c. give-gives (u, record { iid = a; icc = b; extension = c })
 
 -- the records
 record-sound : (k : Kind) (on : Bool) (m : ℕ) (h : Held) (n : ℕ) (xs : List ℤ) → soundHeld k h ≡ true → soundMode m ≡ true → soundFrom k m 0 xs ≡ true

@@ -1,16 +1,17 @@
 -- What the code of the lines cites: a band, a band of some windows, and the lines of the groups.
 -- Assumes nothing.
-use Prim.Native.Nat.{ℕ, zero, suc, _+_, _*_, _-_, _/_, _<_, _≤_}
-use mathlib.Core.Path.{_≡_, refl, sym, _∙_, ap}
-use mathlib.Core.List.{List, [], _∷_}
-use mathlib.Core.Bool.{Bool, true, false}
+use Rattle.bits.proofs.Lawful.{after-give}
+use Prim.Native.Nat.{ℕ, _+_, _*_, _-_, _/_, _<_, _≤_}
+use mathlib.Core.Path.{_≡_, sym, _∙_, ap}
+use mathlib.Core.List.{List, _∷_}
+use mathlib.Core.Bool.{Bool, false}
 use native.Mathlib.Omega.{arith}
 use native.Mathlib.Nat.{mul-le-mul-right, mul-div-le, mul-comm, suc-mul}
 use native.Mathlib.Numerals.{add-one}
 use borrow.Author.Tests.{eq-eqb, ne-eqb}
 use lib.ListN.{getD}
 use lib.IntN.{ℤ}
-use Rattle.bits.specs.Reader.{Answer, got, refused, Reader, give, after, _>>=_}
+use Rattle.bits.specs.Reader.{Answer, got, refused}
 use Rattle.bits.specs.Loop.{counted}
 use Rattle.spectrum.specs.Bands.{firstLine, bandWidth}
 use Rattle.spectrum.specs.Grouping.{groupsAfter, groupsOf}
@@ -71,11 +72,7 @@ module _ (edges : List ℕ) (sfbs : ℕ) (books : List ℕ) (bits base from : �
   unfolding groupLines groupsAfter
   lines-done h = let q : 8 - from ≡ 0 = omega arith in rw q
 
-same : {A : Type 0} (x : Answer A) (s : List ℕ) (end : ℕ) → after x give s end ≡ x
-same (got a m) s end = refl
-same (refused n p) s end = refl
-
 pub lines-long : (edges : List ℕ) (short : Bool) (sfbs : ℕ) (books : List ℕ) (bits : ℕ) (lines : List ℤ) (s : List ℕ) (at end : ℕ) → short ≡ false
     → counted 0 sfbs (groupBand edges books 0 0 1) lines s at end ≡ groupLines edges sfbs books (groupsOf short bits) 0 0 lines s at end
 unfolding groupLines groupsOf
-lines-long edges short sfbs books bits lines s at end e = rw e (sym (same (counted 0 sfbs (groupBand edges books 0 0 1) lines s at end) s end))
+lines-long edges short sfbs books bits lines s at end e = rw e (sym (after-give (counted 0 sfbs (groupBand edges books 0 0 1) lines s at end) s end))

@@ -1,5 +1,5 @@
 -- What a word of a spectral book stands for: a tuple of values, with sign bits and escapes.
-use Prim.Native.Nat.{ℕ, _*_, _-_, _/_, _%_, _^_, min}
+use Prim.Native.Nat.{ℕ, _-_, _/_, _%_, _^_, min}
 use mathlib.Core.List.{List}
 use lib.Dec.{eqb, leb}
 use lib.ListN.{getD, set, replicate}

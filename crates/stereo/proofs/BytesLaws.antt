@@ -1,15 +1,15 @@
 -- A payload's bytes, case by case, with the code's answer on the left; the code has at most 1,025 bytes in view.
 -- Assumes nothing.
 use Prim.Native.Nat.{ℕ, _*_, _-_, _<_, _≤_, min}
-use mathlib.Core.Path.{_≡_, sym, _∙_, ap}
+use mathlib.Core.Path.{_≡_}
 use mathlib.Core.List.{List}
 use borrow.Author.Tests.{le-leb, lt-leb}
 use lib.ListN.{length}
-use Rattle.bits.specs.Reader.{Answer, got, refused}
+use Rattle.bits.specs.Reader.{got, refused}
 use Rattle.bits.specs.Payload.{ended}
 use Rattle.stereo.specs.State.{lost}
 use Rattle.stereo.specs.Payload.{payload}
-use Rattle.stereo.specs.Stereo.{from, refusal, taken, judged, readBytes}
+use Rattle.stereo.specs.Stereo.{from, refusal, taken, readBytes}
 use Rattle.stereo.specs.declared.State.{State}
 use Rattle.stereo.specs.declared.Contents.{Contents}
 use Rattle.stereo.proofs.PayloadNear.{whole-near}

@@ -1,11 +1,10 @@
 -- The bench examples of document 01, the faults a bench has shown, and payloads of a published run, computed.
 -- Assumes nothing.
-use Prim.Native.Nat.{ℕ, _-_}
+use Prim.Native.Nat.{ℕ}
 use mathlib.Core.Path.{_≡_, refl}
-use mathlib.Core.List.{List, [], _∷_, _++_}
-use mathlib.Core.Bool.{Bool, true, false}
-use lib.ListN.{length, replicate}
-use lib.IntN.{ℤ, pos, negsuc}
+use mathlib.Core.List.{List, [], _∷_}
+use mathlib.Core.Bool.{true, false}
+use lib.IntN.{ℤ, pos}
 use Rattle.bits.specs.Reader.{got, refused}
 use Rattle.differences.specs.Held.{none, held}
 use Rattle.differences.specs.Indices.{padded, index}
@@ -13,14 +12,11 @@ use Rattle.differences.specs.Rows.{noRows, noRow}
 use Rattle.differences.specs.declared.Kind.the-variants.{Iid, Icc, Ipd}
 use Rattle.differences.specs.declared.Held.{Held}
 use Rattle.differences.specs.declared.Row.{Row}
-use Rattle.stereo.specs.State.{freshSetup, fresh, lost}
-use Rattle.stereo.specs.Header.{noHeader}
+use Rattle.stereo.specs.State.{fresh, lost}
 use Rattle.stereo.specs.Frame.{noFrame, noBorders}
 use Rattle.stereo.specs.Extension.{noPart, noExtension}
 use Rattle.stereo.specs.Payload.{noContents}
 use Rattle.stereo.specs.Stereo.{refusal, readFrom}
-use Rattle.stereo.specs.declared.Header.{Header}
-use Rattle.stereo.specs.declared.Frame.{Frame}
 use Rattle.stereo.specs.declared.State.{State}
 use Rattle.stereo.specs.declared.Contents.{Contents}
 use Rattle.stereo.specs.declared.Reading.{Reading}

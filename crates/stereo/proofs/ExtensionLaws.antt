@@ -1,14 +1,14 @@
 -- The extension, case by case, with the code's answer on the left.
 -- Assumes nothing.
 use Prim.Native.Nat.{ℕ, _+_, _*_, _-_, _<_, _≤_}
-use mathlib.Core.Path.{_≡_, refl, sym, _∙_, ap, ap₂}
+use mathlib.Core.Path.{_≡_, refl, ap}
 use mathlib.Core.List.{List, [], _∷_, _++_}
 use mathlib.Core.Bool.{Bool, true, false}
 use native.Mathlib.Omega.{arith}
 use borrow.Author.Tests.{eq-eqb, ne-eqb, le-leb, lt-leb}
 use lib.Dec.{eqb}
 use Rattle.bits.specs.Bits.{bitsFrom}
-use Rattle.bits.specs.Reader.{Answer, got, refused, give, pick}
+use Rattle.bits.specs.Reader.{got, refused, give, pick}
 use Rattle.bits.specs.Field.{field, zeroBit}
 use Rattle.bits.specs.Places.{here, refuseAt}
 use Rattle.bits.specs.Inside.{inside, leftOver}

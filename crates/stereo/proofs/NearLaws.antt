@@ -5,7 +5,7 @@ use mathlib.Core.Path.{_≡_, refl, sym, _∙_, ap}
 use mathlib.Core.List.{List, [], _∷_, _++_}
 use mathlib.Core.Bool.{Bool, true, false, _&&_, _||_}
 use native.Mathlib.Omega.{arith}
-use borrow.Author.Tests.{le-leb, lt-leb, le-ltb}
+use borrow.Author.Tests.{le-leb, le-ltb}
 use lib.Dec.{T, leb, ltb, eqb, leb→le}
 use Rattle.bits.specs.Bits.{bitsFrom}
 use Rattle.bits.specs.Reader.{Answer, got, refused, Reader, give, after, _>>=_, pick, expecting}
@@ -13,9 +13,9 @@ use Rattle.bits.specs.Field.{field}
 use Rattle.bits.specs.Loop.{counted, more, listed}
 use Rattle.bits.specs.Inside.{inside}
 use Rattle.bits.proofs.Bools.{and-left, and-right}
-use Rattle.bits.proofs.Lawful.{Lawful, never, split, tested-got}
-use Rattle.bits.proofs.FieldLaws.{is-field, field-taken, field-lawful}
-use Rattle.bits.proofs.InsideLaws.{Filling, inside-got, inside-lawful}
+use Rattle.bits.proofs.Lawful.{Lawful, split, tested-got}
+use Rattle.bits.proofs.FieldLaws.{is-field, field-taken}
+use Rattle.bits.proofs.InsideLaws.{Filling, inside-lawful}
 use Rattle.words.specs.Words.{fits, cutOff, scan, word}
 use Rattle.words.specs.Table.{sized}
 use Rattle.words.proofs.CompleteLaws.{complete-parts}

@@ -1,14 +1,14 @@
 -- The reading laws of a payload: no bit outside counts, and no cut goes unseen.
 -- Assumes nothing.
-use Prim.Native.Nat.{ℕ, _+_, _*_, _<_}
+use Prim.Native.Nat.{ℕ, _*_, _<_}
 use mathlib.Core.Path.{_≡_}
-use mathlib.Core.Bool.{Bool, true, false}
+use mathlib.Core.Bool.{Bool}
 use mathlib.Core.List.{List}
 use lib.Dec.{eqb}
 use lib.ListN.{take}
-use Rattle.bits.specs.Reader.{got, refused, give, pick, _>>=_}
+use Rattle.bits.specs.Reader.{got, refused, pick}
 use Rattle.bits.specs.Payload.{whole}
-use Rattle.bits.specs.Inside.{Fill, leftOver}
+use Rattle.bits.specs.Inside.{leftOver}
 use Rattle.bits.specs.Field.{field}
 use Rattle.bits.specs.Places.{here, refuseAt}
 use Rattle.bits.proofs.Lawful.{Lawful, bind-lawful, give-lawful, pick-lawful, expecting-lawful}

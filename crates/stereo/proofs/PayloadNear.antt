@@ -1,6 +1,6 @@
 -- A payload uses at most 8,192 bits, so that its end does not count from there on.
 -- Assumes nothing.
-use Prim.Native.Nat.{ℕ, zero, suc, _+_, _*_, _-_, _<_, _≤_, _^_, min}
+use Prim.Native.Nat.{ℕ, _+_, _*_, _-_, _<_, _≤_, min}
 use mathlib.Core.Path.{_≡_, refl, sym, _∙_, ap}
 use mathlib.Core.Bool.{Bool, true, false}
 use mathlib.Core.List.{List}
@@ -10,20 +10,19 @@ use borrow.Author.Tests.{lt-leb}
 use lib.Dec.{eqb}
 use lib.IntN.{ℤ}
 use lib.ListN.{length}
-use Rattle.bits.specs.Reader.{Answer, got, refused, Reader, give, pick, after, _>>=_}
+use Rattle.bits.specs.Reader.{Answer, got, refused, pick, after, _>>=_}
 use Rattle.bits.specs.Payload.{ended, whole}
 use Rattle.bits.specs.Field.{field}
 use Rattle.bits.proofs.Taken.{field-below}
-use Rattle.bits.proofs.Lawful.{split}
+use Rattle.bits.proofs.Lawful.{split, same-value}
 use Rattle.differences.specs.Kind.{bands}
-use Rattle.differences.specs.Difference.{firstTable, differenceTable, difference}
-use Rattle.differences.specs.Kind.{fine}
+use Rattle.differences.specs.Difference.{differenceTable, difference}
 use Rattle.differences.specs.Indices.{indexFrom, index, indices}
 use Rattle.differences.specs.Rows.{row, rowsOf, rows}
 use Rattle.differences.specs.declared.Kind.{Kind}
-use Rattle.differences.specs.declared.Kind.the-variants.{Iid, Icc, Ipd, Opd}
+use Rattle.differences.specs.declared.Kind.the-variants.{Iid, Icc}
 use Rattle.differences.specs.declared.Held.{Held}
-use Rattle.differences.proofs.KindLaws.{bands-le}
+use Rattle.differences.proofs.KindLaws.{bands-le, table-below}
 use Rattle.stereo.specs.Header.{mode, headerFields, header, setupAfter}
 use Rattle.stereo.specs.Frame.{envelopeCount, bordersOf, borders, frame}
 use Rattle.stereo.specs.Extension.{part, announced, escCount, extensionSent, extension}
@@ -36,25 +35,6 @@ use Rattle.stereo.specs.declared.Contents.{Contents}
 use Rattle.stereo.proofs.NearLaws.{Near, wider, give-near, field-near, expecting-near, pick-near, bind-near, known-near, listed-near, inside-near, word-near}
 use Rattle.stereo.proofs.ExtensionLaws.{esc-below}
 use Rattle.stereo.proofs.PayloadLaws.{part-filling}
-
--- the tables of differences are among the 22
-table-below : (k : Kind) (m t : ℕ) → differenceTable k m t < 22
-unfolding differenceTable firstTable
-table-below k m t = go k (fine m) (eqb t 1)
-  where
-    two : (b : Bool) (x : ℕ) → x ≤ 20 → x + pick b 1 0 < 22
-    two true x h = omega arith
-    two false x h = omega arith
-
-    level : (b : Bool) → pick b 14 12 ≤ 20
-    level true = omega arith
-    level false = omega arith
-
-    go : (k : Kind) (a b : Bool) → firstTable k m + pick b 1 0 < 22
-    go Iid a b = two b (pick (fine m) 14 12) (level (fine m))
-    go Icc a b = two b 16 (omega arith)
-    go Ipd a b = two b 18 (omega arith)
-    go Opd a b = two b 20 (omega arith)
 
 index-near : (k : Kind) (m t : ℕ) (before xs : List ℤ) → Near 20 (index k m t before xs)
 unfolding index indexFrom difference
@@ -109,9 +89,6 @@ frame-few s at end next fr e =
     let c = split (borders (a .0) (envelopeCount (a .0) (b .0)) s (b .1) end) _ s end next fr (b .3) in
     let q : envelopeCount (a .0) (b .0) ≡ fr .envelopes = ap (λ (f : Frame). f .envelopes) (same-value (c .3)) in
     rw (← q) (count-le (a .0) (b .0) (field-below 2 s (a .1) end (b .0) (b .1) (b .2)))
-  where
-    same-value : {A : Type 0} {x y : A} {m n : ℕ} → got x m ≡ got y n → x ≡ y
-    same-value e = cc
 
 esc-near : (z : ℕ) → Near 8 (escCount z)
 unfolding escCount

@@ -1,5 +1,4 @@
 -- What the code's answers mean.
-use Prim.Native.Nat.{ℕ}
 use lib.Dec.{eqb}
 use Rattle.bits.specs.Reader.{pick}
 use Rattle.bits.specs.declared.Ended.{Ended}

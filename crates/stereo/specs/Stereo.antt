@@ -13,7 +13,6 @@ use Rattle.stereo.specs.Extension.{noPhases}
 use Rattle.stereo.specs.Payload.{noContents, payload}
 use Rattle.stereo.specs.Carried.{carried}
 use Rattle.stereo.specs.declared.State.{State}
-use Rattle.stereo.specs.declared.Phases.{Phases}
 use Rattle.stereo.specs.declared.Body.{Body}
 use Rattle.stereo.specs.declared.Contents.{Contents}
 use Rattle.stereo.specs.declared.Reading.{Reading}

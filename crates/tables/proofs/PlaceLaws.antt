@@ -1,16 +1,16 @@
 -- Where a table stands, by its number; and the word of an entry.
 -- Assumes nothing.
 use Prim.Native.Nat.{ℕ, zero, suc, _+_, _<_, _≤_}
-use mathlib.Core.Path.{_≡_, refl, sym, _∙_, ap, ap₂}
+use mathlib.Core.Path.{_≡_, refl, sym, _∙_, ap₂}
 use mathlib.Core.List.{List, [], _∷_}
 use mathlib.Core.Bool.{Bool}
 use native.Mathlib.Omega.{arith}
 use native.Mathlib.Decide.{decLt}
 use lib.Dec.{T, leb, leb→le}
-use lib.ListN.{length, getD, List·getD-eq-default}
-use Rattle.bits.specs.Pieces.{Piece, piece}
+use lib.ListN.{getD, List·getD-eq-default}
+use Rattle.bits.specs.Pieces.{piece}
 use Rattle.tables.specs.Words.{allCodes, allLens}
-use Rattle.tables.specs.Tables.{Table, run, codesOf, lensOf, spellWord}
+use Rattle.tables.specs.Tables.{Table, codesOf, lensOf, spellWord}
 use Rattle.tables.specs.Names.{tables, noTable, tableAt}
 use Rattle.tables.proofs.RunLaws.{codes-count, lens-count, run-length, run-at, all-at, narrow}
 use Rattle.tables.proofs.Rules.{every, every-at}

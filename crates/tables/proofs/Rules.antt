@@ -11,7 +11,6 @@ use lib.Dec.{T}
 use native.Mathlib.Decide.{decLt}
 use lib.ListN.{length, getD, List·getD-eq-default}
 use Rattle.bits.specs.Reader.{refused}
-use Rattle.bits.specs.Pieces.{Piece, piece}
 use Rattle.bits.proofs.Bools.{and-left, and-right}
 use Rattle.bits.proofs.Lawful.{Lawful}
 use Rattle.bits.proofs.Spelt.{Spelt}

@@ -1,4 +1,3 @@
-pub mod PayloadLawful
 pub mod PayloadNumbers
 pub mod SpellingLaws
 pub mod SameLaws

@@ -1,10 +1,10 @@
 -- Which numbers a payload's reading refuses with: 10, 13, 31, 32, 33, 34; and a whole payload 12 besides.
 -- Assumes nothing.
-use Prim.Native.Nat.{ℕ, _+_, _*_, _<_}
-use mathlib.Core.Path.{_≡_, refl}
+use Rattle.differences.proofs.KindLaws.{table-below}
+use Prim.Native.Nat.{ℕ, _*_}
+use mathlib.Core.Path.{_≡_, refl, subst}
 use mathlib.Core.List.{List}
 use mathlib.Core.Bool.{Bool, true, false, _||_}
-use native.Mathlib.Omega.{arith}
 use lib.Dec.{eqb}
 use Rattle.bits.specs.Reader.{refused, Reader, give, _>>=_, pick, expecting}
 use Rattle.bits.specs.Field.{field, zeroBit}
@@ -12,17 +12,16 @@ use Rattle.bits.specs.Loop.{listed}
 use Rattle.bits.specs.Inside.{Fill, leftOver}
 use Rattle.bits.specs.Places.{here, refuseAt}
 use Rattle.bits.specs.Payload.{whole}
+use Rattle.bits.proofs.Bools.{true-false}
 use Rattle.bits.proofs.Numbered.{Numbered, give-numbered, here-numbered, refusing-numbered, field-numbered, zeroBit-numbered, bind-numbered, expecting-numbered, pick-numbered, listed-numbered, leftOver-numbered, inside-numbered, whole-numbered}
 use Rattle.words.proofs.WordNumbered.{word-numbered}
 use Rattle.tables.specs.Tables.{codesOf, lensOf}
 use Rattle.tables.specs.Names.{tableAt}
 use Rattle.tables.proofs.Rules.{ruled-at}
-use Rattle.differences.specs.Difference.{firstTable, differenceTable, difference}
-use Rattle.differences.specs.Kind.{fine}
+use Rattle.differences.specs.Difference.{differenceTable, difference}
 use Rattle.differences.specs.Indices.{indexFrom, index, indices}
 use Rattle.differences.specs.Rows.{row, rowsOf, rows}
 use Rattle.differences.specs.declared.Kind.{Kind}
-use Rattle.differences.specs.declared.Kind.the-variants.{Iid, Icc, Ipd, Opd}
 use Rattle.differences.specs.declared.Held.{Held}
 use Rattle.stereo.specs.Header.{mode, headerFields, header}
 use Rattle.stereo.specs.Frame.{bordersOf, borders, frame}
@@ -72,25 +71,6 @@ header-own = search (owns, mode-own) depth 24
 frame-own : Numbered own frame
 unfolding frame borders bordersOf
 frame-own = search owns depth 24
-
--- every table of differences is one of the 22
-table-below : (k : Kind) (mode time : ℕ) → differenceTable k mode time < 22
-unfolding differenceTable firstTable
-table-below k mode time = go k (eqb time 1)
-  where
-    add : (n : ℕ) (t : Bool) → n < 21 → n + pick t 1 0 < 22
-    add n true h = omega arith
-    add n false h = omega arith
-
-    first : (b : Bool) → pick b 14 12 < 21
-    first true = omega arith
-    first false = omega arith
-
-    go : (k : Kind) (t : Bool) → firstTable k mode + pick t 1 0 < 22
-    go Iid t = add (pick (fine mode) 14 12) t (first (fine mode))
-    go Icc t = add 16 t (omega arith)
-    go Ipd t = add 18 t (omega arith)
-    go Opd t = add 20 t (omega arith)
 
 difference-own : (k : Kind) (mode time : ℕ) → Numbered own (difference k mode time)
 unfolding difference
@@ -146,3 +126,7 @@ payload-own st = search (owns, header-own, frame-own, envelopes-own) depth 12
 
 pub whole-own : (st : State) (s : List ℕ) (n p : ℕ) → whole (payload st) s ≡ refused n p → own n ≡ true
 whole-own st s n p e = whole-numbered own (payload st) refl (payload-own st) s n p e
+
+-- so no refusal has the number of a success
+pub whole-not-0 : (st : State) (s : List ℕ) (n p : ℕ) → whole (payload st) s ≡ refused n p → n ≡ 0 → ⊥
+whole-not-0 st s n p e z = true-false (own 0) (subst (λ (k : ℕ). own k ≡ true) z (whole-own st s n p e)) refl

@@ -7,16 +7,13 @@ use mathlib.Core.Bool.{Bool, true, false, _&&_}
 use lib.Dec.{eqb}
 use lib.IntN.{ℤ, pos, negsuc}
 use borrow.Author.Tests.{eqb-true, eq-eqb}
-use Rattle.bits.proofs.Bools.{and-both, true-false}
+use Rattle.bits.proofs.Bools.{and-both, true-false, and-of}
 use Rattle.writer.specs.Same.{sameList, sameIndex, sameRow, samePhases, sameBody, samePart, sameExtension, sameHeader, sameFrame, sameContents}
 
 -- a test of sameness that is right
 pub record Right {A : Type 0} (same : A → A → Bool) : Type 0 where
   pub is : (a b : A) → same a b ≡ true → a ≡ b
   pub self : (a : A) → same a a ≡ true
-
-both : (a b : Bool) → a ≡ true → b ≡ true → (a && b) ≡ true
-both a b p q = rw p q
 
 number-right : Right eqb
 number-right = record { is = eqb-true; self = λ a. eq-eqb a a refl }
@@ -47,7 +44,7 @@ list-right {A} {same} r = record { is = is; self = self }
 
     self : (xs : List A) → sameList same xs xs ≡ true
     self [] = refl
-    self (x ∷ xs) = both (same x x) (sameList same xs xs) (r .self x) (self xs)
+    self (x ∷ xs) = and-of (same x x) (sameList same xs xs) (r .self x) (self xs)
 
 same-number : (a : ℕ) → eqb a a ≡ true
 same-number a = eq-eqb a a refl
@@ -71,7 +68,7 @@ phases-right = record {
       let p = row-right .is (a .ipd) (b .ipd) (x .0) in
       let q = row-right .is (a .opd) (b .opd) (x .1) in
       λ i. record { ipd = p i; opd = q i };
-  self = λ a. both (sameRow (a .ipd) (a .ipd)) (sameRow (a .opd) (a .opd)) (row-right .self (a .ipd)) (row-right .self (a .opd));
+  self = λ a. and-of (sameRow (a .ipd) (a .ipd)) (sameRow (a .opd) (a .opd)) (row-right .self (a .ipd)) (row-right .self (a .opd));
 }
 
 body-right : Right sameBody

@@ -39,7 +39,7 @@ use Rattle.stereo.specs.declared.Header.{Header}
 use Rattle.stereo.specs.declared.Frame.{Frame}
 use Rattle.stereo.specs.declared.Phases.{Phases}
 use Rattle.stereo.specs.declared.Contents.{Contents}
-use Rattle.writer.proofs.PayloadLawful.{part-filling}
+use Rattle.stereo.proofs.PayloadLaws.{part-filling}
 use Rattle.writer.specs.Spelling.{bitField, spellMode, spellFields, spellHeader, countIndex, spellBorder, spellBorders, spellFrame, entryTo, spellIndex, spellRow, spellRows, spellPhases, spellAllPhases, spellBody, spellPart, spellAnnounced, spellSent, spellExtension, spellingIn, spelling}
 
 -- nothing more is known

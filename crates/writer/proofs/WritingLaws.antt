@@ -1,8 +1,8 @@
 -- The round trips: what is written is read to the same contents, count and state; what was read is written back to the bits that it used. And 40
 -- is given exactly where no payload has the contents.
 -- Assumes nothing.
-use Prim.Native.Nat.{ℕ, _*_, _-_, _<_, _≤_}
-use mathlib.Core.Path.{_≡_, refl, ap, subst}
+use Prim.Native.Nat.{ℕ, _*_, _<_, _≤_}
+use mathlib.Core.Path.{_≡_, refl, ap}
 use mathlib.Core.List.{List}
 use mathlib.Core.Bool.{Bool, true, false, _||_}
 use native.Mathlib.Omega.{arith}
@@ -15,7 +15,6 @@ use Rattle.bits.specs.Payload.{whole}
 use Rattle.bits.specs.Pieces.{total}
 use Rattle.bits.specs.Packed.{putAll, bytesFor, packed}
 use Rattle.bits.specs.Writable.{matches, writable}
-use Rattle.bits.proofs.Bools.{true-false}
 use Rattle.bits.proofs.PayloadLaws.{whole-got, whole-is}
 use Rattle.bits.proofs.PackedLaws.{packed-length}
 use Rattle.bits.proofs.Exact.{ReadTo, can, cannot, written-read, read-writable, gives-back, scratch-read}
@@ -30,8 +29,8 @@ use Rattle.writer.specs.declared.Written.{Written}
 use Rattle.writer.specs.Spelling.{spelling}
 use Rattle.writer.specs.Same.{sameContents}
 use Rattle.writer.specs.Writing.{canWrite, unwritten, writing}
-use Rattle.writer.proofs.PayloadLawful.{payload-lawful}
-use Rattle.writer.proofs.PayloadNumbers.{own, whole-own}
+use Rattle.stereo.proofs.PayloadLaws.{payload-lawful}
+use Rattle.writer.proofs.PayloadNumbers.{whole-not-0}
 use Rattle.writer.proofs.SpellingLaws.{payload-spelt}
 use Rattle.writer.proofs.SameLaws.{contents-right}
 
@@ -69,10 +68,6 @@ pub read-bits : (st : State) (s : List ℕ) (n : ℕ) (c : Contents) → whole (
 read-bits st s n c e =
     gives-back (payload st) (spelling st) (λ c. Unit) (payload-lawful st) (payload-spelt st) s (8 * length s) n c (whole-got (payload st) s n c e .0)
 
--- the numbers of refusals are not 0
-own-not-0 : (n : ℕ) → own n ≡ true → n ≡ 0 → ⊥
-own-not-0 n e z = true-false (own 0) (subst (λ (k : ℕ). own k ≡ true) z e) refl
-
 -- what an accepted payload was read to
 pub record Accepted (st : State) (s : List ℕ) : Type 0 where
   pub read : whole (payload (from st)) s ≡ got (readBytes st s .contents) (readBytes st s .bits)
@@ -96,7 +91,7 @@ accepted st s e = answer (whole (payload (from st)) s) refl
 
     go : (a : Answer Contents) → whole (payload (from st)) s ≡ a → judged st a .number ≡ 0 → Of (judged st a)
     go (got c n) q e = step c n q (st .instep || restart c) refl e
-    go (refused n p) q e = absurd (own-not-0 n (whole-own (from st) s n p q) e)
+    go (refused n p) q e = absurd (whole-not-0 (from st) s n p q e)
 
     answer : (a : Answer Contents) → whole (payload (from st)) s ≡ a → Accepted st s
     answer a q = let w = go (whole (payload (from st)) s) refl e in record { read = w .0; step = w .1; state = w .2 }

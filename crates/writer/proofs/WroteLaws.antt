@@ -15,8 +15,6 @@ use Rattle.differences.specs.Held.{held}
 use Rattle.differences.specs.Rows.{heldAfter}
 use Rattle.differences.specs.declared.Held.{Held}
 use Rattle.differences.specs.declared.Row.{Row}
-use Rattle.stereo.specs.Extension.{ipds, opds}
-use Rattle.stereo.specs.declared.Phases.{Phases}
 use Rattle.writer.specs.Wrote.{Wrote, Room}
 
 -- another spelling that is the same
@@ -57,9 +55,6 @@ room-after {x = x} {at = at} {ps = ps} p r h = record {
   left = omega (arith, p .ends, p .short, r .left);
 }
 
-pub room-less : {a b at : ℕ} {x : List ℕ} → Room a at x → b ≤ a → Room b at x
-room-less r h = record { size = r .size; left = omega (arith, r .left) }
-
 -- one more of a list is spelled after those before it
 each-suc : {A : Type 0} (w : List A → A → List Piece) (z : A) (done xs : List A) (i : ℕ) → i < length xs
     → spellEach w done (take i xs) ++ w (done ++ take i xs) (getD xs i z) ≡ spellEach w done (take (suc i) xs)
@@ -81,28 +76,12 @@ wrote-length {x = x} {at = at} {ps = ps} p = ap length (p .holds) ∙ put-all-le
 pub taken-whole : {A : Type 0} (m n : ℕ) (xs : List A) → length xs ≤ m → length xs ≤ n → take m xs ≡ take n xs
 taken-whole m n xs h g = take-all m xs h ∙ sym (take-all n xs g)
 
--- the record after one row more
-held-suc : (h : Held) (mode : ℕ) (rs : List Row) (k : ℕ) (z : Row) → k < length rs → heldAfter h mode (take (suc k) rs) ≡ held mode (getD rs k z .indices)
-held-suc h mode [] k z l = absurd (omega arith)
-held-suc h mode (r ∷ rs) zero z l = refl
-held-suc h mode (r ∷ rs) (suc k) z l = held-suc (held mode (r .indices)) mode rs k z (omega arith)
+-- the record after one more of what holds a row: f is the row that it holds, g the rows that a list of them holds
+module _ {A : Type 0} (f : A → Row) (g : List A → List Row) (none : g [] ≡ []) (each : (x : A) (xs : List A) → g (x ∷ xs) ≡ f x ∷ g xs) where
+  record-suc : (h : Held) (mode : ℕ) (xs : List A) (k : ℕ) (z : A) → k < length xs → heldAfter h mode (g (take (suc k) xs)) ≡ held mode (f (getD xs k z) .indices)
+  record-suc h mode [] k z l = absurd (omega arith)
+  record-suc h mode (x ∷ xs) zero z l = rw (each x [], none)
+  record-suc h mode (x ∷ xs) (suc k) z l = rw (each x (take (suc k) xs)) (record-suc (held mode (f x .indices)) mode xs k z (omega arith))
 
-pub held-more : (h : Held) (mode : ℕ) (rs : List Row) (k : ℕ) (z : Row) → k < length rs → held mode (getD rs k z .indices) ≡ heldAfter h mode (take (k + 1) rs)
-held-more h mode rs k z l = let e : k + 1 ≡ suc k = omega arith in rw e (sym (held-suc h mode rs k z l))
-
--- the records after one envelope of phases more
-ipd-suc : (h : Held) (mode : ℕ) (ps : List Phases) (k : ℕ) (z : Phases) → k < length ps → heldAfter h mode (ipds (take (suc k) ps)) ≡ held mode (getD ps k z .ipd .indices)
-ipd-suc h mode [] k z l = absurd (omega arith)
-ipd-suc h mode (p ∷ ps) zero z l = refl
-ipd-suc h mode (p ∷ ps) (suc k) z l = ipd-suc (held mode (p .ipd .indices)) mode ps k z (omega arith)
-
-pub ipd-more : (h : Held) (mode : ℕ) (ps : List Phases) (k : ℕ) (z : Phases) → k < length ps → held mode (getD ps k z .ipd .indices) ≡ heldAfter h mode (ipds (take (k + 1) ps))
-ipd-more h mode ps k z l = let e : k + 1 ≡ suc k = omega arith in rw e (sym (ipd-suc h mode ps k z l))
-
-opd-suc : (h : Held) (mode : ℕ) (ps : List Phases) (k : ℕ) (z : Phases) → k < length ps → heldAfter h mode (opds (take (suc k) ps)) ≡ held mode (getD ps k z .opd .indices)
-opd-suc h mode [] k z l = absurd (omega arith)
-opd-suc h mode (p ∷ ps) zero z l = refl
-opd-suc h mode (p ∷ ps) (suc k) z l = opd-suc (held mode (p .opd .indices)) mode ps k z (omega arith)
-
-pub opd-more : (h : Held) (mode : ℕ) (ps : List Phases) (k : ℕ) (z : Phases) → k < length ps → held mode (getD ps k z .opd .indices) ≡ heldAfter h mode (opds (take (k + 1) ps))
-opd-more h mode ps k z l = let e : k + 1 ≡ suc k = omega arith in rw e (sym (opd-suc h mode ps k z l))
+  pub record-more : (h : Held) (mode : ℕ) (xs : List A) (k : ℕ) (z : A) → k < length xs → held mode (f (getD xs k z) .indices) ≡ heldAfter h mode (g (take (k + 1) xs))
+  record-more h mode xs k z l = let e : k + 1 ≡ suc k = omega arith in rw e (sym (record-suc h mode xs k z l))

@@ -1,10 +1,8 @@
-use Prim.Native.Nat.{ℕ, _+_, _<_, _≤_}
+use Prim.Native.Nat.{ℕ, _+_}
 use mathlib.Core.List.{List}
 use mathlib.Core.Path.{_≡_, _∙_, ap, ap₂}
 use native.Mathlib.Omega.{arith}
 use lib.ListN.{length, getD}
-use Rattle.tables.specs.Words.{allCodes, allLens}
-use Rattle.tables.specs.Names.{tableAt}
 use Rattle.tables.proofs.RunLaws.{codes-count, lens-count}
 use Rattle.tables.proofs.PlaceLaws.{place-in, entry-is, no-entry}
 use borrow.Author.Needs.{needs}

@@ -51,7 +51,14 @@ unfolding soundImage
 returns-5 c =
     let s = c .before .before .before .before .before .before .before .args .image .now in
     let n = c .before .before .before .pair-at in
-    rw (← (n .ensures .0), le-leb (length s) 65535 (omega arith), le-leb 6 (length s) (omega arith), eq-eqb (n .result % 2) 0 (omega arith), le-leb (n .result) 1024 (omega arith), lt-leb _ _ (c .if5 .taken))
+    rw (
+      ← (n .ensures .0),
+      le-leb (length s) 65535 (omega arith),
+      le-leb 6 (length s) (omega arith),
+      eq-eqb (n .result % 2) 0 (omega arith),
+      le-leb (n .result) 1024 (omega arith),
+      lt-leb _ _ (c .if5 .taken),
+    )
 
 pair-at-requires-2 : tie.Need-pair-at-requires-2
 pair-at-requires-2 c κs = search needs
@@ -68,7 +75,16 @@ returns-6 c =
     let s = c .before .before .before .before .before .before .before .before .before .args .image .now in
     let n = c .before .before .before .before .before .pair-at in
     let first = c .before .pair-at2 in
-    rw (← (n .ensures .0), le-leb (length s) 65535 (omega arith), le-leb 6 (length s) (omega arith), eq-eqb (n .result % 2) 0 (omega arith), le-leb (n .result) 1024 (omega arith), le-leb (2 * n .result + 6) (length s) (omega arith), ← (first .ensures .0), ne-eqb _ _ (c .if6 .taken))
+    rw (
+      ← (n .ensures .0),
+      le-leb (length s) 65535 (omega arith),
+      le-leb 6 (length s) (omega arith),
+      eq-eqb (n .result % 2) 0 (omega arith),
+      le-leb (n .result) 1024 (omega arith),
+      le-leb (2 * n .result + 6) (length s) (omega arith),
+      ← (first .ensures .0),
+      ne-eqb _ _ (c .if6 .taken),
+    )
 
 is-rising-requires : tie.Need-is-rising-requires
 is-rising-requires c κs = search needs
@@ -79,7 +95,18 @@ returns-7 c =
     let s = c .before .before .before .before .before .before .before .before .before .before .before .args .image .now in
     let n = c .before .before .before .before .before .before .before .pair-at in
     let first = c .before .before .before .pair-at2 in
-    rw (← (n .ensures .0), le-leb (length s) 65535 (omega arith), le-leb 6 (length s) (omega arith), eq-eqb (n .result % 2) 0 (omega arith), le-leb (n .result) 1024 (omega arith), le-leb (2 * n .result + 6) (length s) (omega arith), ← (first .ensures .0), eq-eqb (first .result) (2 * n .result + 6) (omega arith), ← (c .before .is-rising .ensures), not-true (c .before .is-rising .result) (c .if7 .taken))
+    rw (
+      ← (n .ensures .0),
+      le-leb (length s) 65535 (omega arith),
+      le-leb 6 (length s) (omega arith),
+      eq-eqb (n .result % 2) 0 (omega arith),
+      le-leb (n .result) 1024 (omega arith),
+      le-leb (2 * n .result + 6) (length s) (omega arith),
+      ← (first .ensures .0),
+      eq-eqb (first .result) (2 * n .result + 6) (omega arith),
+      ← (c .before .is-rising .ensures),
+      not-true (c .before .is-rising .result) (c .if7 .taken),
+    )
 
 mul-pair-at : tie.Need-mul-pair-at
 mul-pair-at c = search needs
@@ -96,7 +123,19 @@ returns-8 c =
     let s = c .before .before .before .before .before .before .before .before .before .before .before .before .args .image .now in
     let n = c .before .before .before .before .before .before .before .before .pair-at in
     let first = c .before .before .before .before .pair-at2 in
-    rw (← (n .ensures .0), le-leb (length s) 65535 (omega arith), le-leb 6 (length s) (omega arith), eq-eqb (n .result % 2) 0 (omega arith), le-leb (n .result) 1024 (omega arith), le-leb (2 * n .result + 6) (length s) (omega arith), ← (first .ensures .0), eq-eqb (first .result) (2 * n .result + 6) (omega arith), ← (c .before .before .is-rising .ensures), not-false (c .before .before .is-rising .result) (c .before .if7 .left), ← (c .pair-at3 .ensures .0))
+    rw (
+      ← (n .ensures .0),
+      le-leb (length s) 65535 (omega arith),
+      le-leb 6 (length s) (omega arith),
+      eq-eqb (n .result % 2) 0 (omega arith),
+      le-leb (n .result) 1024 (omega arith),
+      le-leb (2 * n .result + 6) (length s) (omega arith),
+      ← (first .ensures .0),
+      eq-eqb (first .result) (2 * n .result + 6) (omega arith),
+      ← (c .before .before .is-rising .ensures),
+      not-false (c .before .before .is-rising .result) (c .before .if7 .left),
+      ← (c .pair-at3 .ensures .0),
+    )
 
 pub is-sound-spec : {M : Type 1} → statement M
 is-sound-spec =

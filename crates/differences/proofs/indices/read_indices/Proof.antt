@@ -1,19 +1,19 @@
 -- After i turns the first i indices are those that the definition has read, the rest are zeros, and `last` is the one before.
-use Prim.Native.Nat.{ℕ, _+_, _-_, _<_, _≤_}
+use Prim.Native.Nat.{ℕ, _-_, _<_, _≤_}
 use mathlib.Core.Path.{_≡_, sym, _∙_, ap}
 use mathlib.Core.Bool.{true}
-use mathlib.Core.List.{List, [], _∷_, _++_}
+use mathlib.Core.List.{List, []}
 use native.Mathlib.Omega.{arith}
 use borrow.Author.Needs.{needs}
 use lib.Dec.{eqb}
-use lib.ListN.{take, getD, set, length}
+use lib.ListN.{take, getD}
 use lib.IntN.{ℤ, pos, natAbs}
 use mir.Syntax.{w8}
 use mir.Val.{SFits, toZ, ofZ}
 use mir.ValLaws.{toZ-ofZ}
 use denote.Ref.{now}
-use Rattle.bits.specs.Reader.{Answer, got, refused, pick}
-use Rattle.bits.specs.Loop.{counted, more, listed}
+use Rattle.bits.specs.Reader.{Answer, got, pick}
+use Rattle.bits.specs.Loop.{counted, more}
 use Rattle.bits.proofs.LoopLaws.{counted-start, counted-more, counted-stop, counted-done, more-got, more-refused}
 use Rattle.bits.proofs.Signed.{fits, thru}
 use Rattle.differences.specs.Held.{zeros}

@@ -1,5 +1,4 @@
 use mathlib.Core.Path.{_≡_, _∙_, sym}
-use mathlib.Core.Path.{_≡_, _∙_}
 use Rattle.differences.specs.Kind.{bands}
 use Rattle.differences.proofs.KindLaws.{bands-le}
 use borrow.Author.Needs.{needs}

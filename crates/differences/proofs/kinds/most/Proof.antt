@@ -1,9 +1,9 @@
+-- Kind by kind. Of a level the grid tells, and a number of at most 15 goes through 16 bits unchanged.
 use mir.Syntax.{w16}
 use Rattle.differences.proofs.KindLaws.{through, most-abs}
-use mathlib.Core.Path.{_≡_, _∙_, refl}
+use mathlib.Core.Path.{_≡_, _∙_}
 use native.Mathlib.Omega.{arith}
 use Rattle.differences.specs.Kind.{most}
-use Rattle.differences.proofs.KindLaws.{pick-thru}
 use borrow.Author.Needs.{needs}
 use Rattle.differences.proofs.kinds.most.Statement.{statement}
 use Rattle.differences.proofs.kinds.most.Tie as tie

@@ -1,6 +1,6 @@
-use mathlib.Core.Path.{_≡_, sym, _∙_}
+use borrow.Author.Tests.{not-true, not-false}
+use mathlib.Core.Path.{sym, _∙_}
 use Rattle.differences.specs.Held.{soundHeld}
-use Rattle.differences.proofs.KindLaws.{not-true, not-false}
 use borrow.Author.Needs.{needs}
 use Rattle.differences.proofs.records.is_sound.Statement.{statement}
 use Rattle.differences.proofs.records.is_sound.Tie as tie

@@ -1,9 +1,11 @@
-use mathlib.Core.Path.{_≡_, sym, _∙_}
+-- Below the band count the range is the kind's, above it 0 alone; an index and both ends go through 16 bits unchanged.
+use Rattle.bits.proofs.Signed.{wide-fits}
+use mathlib.Core.Path.{_∙_}
 use native.Mathlib.Omega.{arith}
 use borrow.Author.Tests.{lt-ltb, le-ltb}
 use mir.Syntax.{w16}
 use Rattle.differences.specs.Held.{soundIndex}
-use Rattle.differences.proofs.KindLaws.{through, wide-is, wide-fits, least-abs, most-abs}
+use Rattle.differences.proofs.KindLaws.{through, wide-is, least-abs, most-abs}
 use borrow.Author.Needs.{needs}
 use Rattle.differences.proofs.records.sound_index.Statement.{statement}
 use Rattle.differences.proofs.records.sound_index.Tie as tie

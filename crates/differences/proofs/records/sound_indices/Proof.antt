@@ -1,7 +1,7 @@
 -- The indices before i are sound: whether all are is whether those from i on are.
-use Prim.Native.Nat.{ℕ, _+_, _-_, _<_, _≤_}
+use borrow.Author.Tests.{not-true, not-false}
+use Prim.Native.Nat.{_-_, _≤_}
 use mathlib.Core.Path.{_≡_, refl, sym, _∙_}
-use mathlib.Core.Bool.{true, false}
 use native.Mathlib.Omega.{arith}
 use borrow.Author.Needs.{needs}
 use lib.ListN.{length, drop, getD}
@@ -10,7 +10,6 @@ use mir.Syntax.{w8}
 use mir.Val.{SFits}
 use mir.ValLaws.{toZ-ofZ}
 use Rattle.differences.specs.Held.{soundIndex, soundFrom}
-use Rattle.differences.proofs.KindLaws.{not-true, not-false}
 use Rattle.differences.proofs.HeldLaws.{sound-more, sound-stop, sound-done}
 use Rattle.differences.proofs.records.sound_indices.Statement.{statement}
 use Rattle.differences.proofs.records.sound_indices.Tie as tie

@@ -1,7 +1,6 @@
-use Rattle.differences.proofs.KindLaws.{not-true, not-false}
-use mathlib.Core.Path.{_≡_, sym, _∙_}
-use mathlib.Core.Bool.{true, false}
-use borrow.Author.Tests.{eq-eqb, ne-eqb}
+-- The time flag is judged at its own place, before an index is read; the indices follow it.
+use mathlib.Core.Path.{sym, _∙_}
+use borrow.Author.Tests.{not-true, not-false}
 use Rattle.bits.proofs.Taken.{answered}
 use Rattle.differences.proofs.RowLaws.{row-refused, row-31, row-rest}
 use borrow.Author.Needs.{needs}

@@ -1,11 +1,11 @@
 -- After k turns the first k rows are those that the definition has read, the rest are empty, and `last` is the record that they leave.
-use Prim.Native.Nat.{ℕ, _+_, _-_, _<_, _≤_}
+use Prim.Native.Nat.{ℕ, _-_, _<_, _≤_}
 use mathlib.Core.Path.{_≡_, sym, _∙_, ap}
-use mathlib.Core.List.{List, [], _∷_, _++_}
+use mathlib.Core.List.{List, []}
 use native.Mathlib.Omega.{arith}
 use borrow.Author.Needs.{needs}
 use lib.ListN.{take}
-use Rattle.bits.specs.Reader.{Answer, got, refused, Reader}
+use Rattle.bits.specs.Reader.{got, Reader}
 use Rattle.bits.specs.Answers.{endedAnswer}
 use Rattle.bits.specs.Loop.{counted, more}
 use Rattle.bits.specs.declared.Ended.{Ended}

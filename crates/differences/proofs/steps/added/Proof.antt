@@ -1,17 +1,12 @@
-use mir.Syntax.{w8}
-use mir.ValLaws.{toZ-ofZ}
-use Prim.Native.Nat.{_≤_, _<_, _+_, _%_, _^_}
-use Rattle.differences.proofs.KindLaws.{code-difference, code-sum, sum-abs}
+-- A phase is added modulo 8. Of any other kind no sum passes 218, so 16 bits hold it and the code adds what the definition adds.
+use mir.Syntax.{w8, w16}
+use mir.ValLaws.{toZ-ofZ, toZ-pos}
+use Prim.Native.Nat.{_<_, _+_, _%_, _^_}
+use Rattle.differences.proofs.KindLaws.{code-difference, code-sum, sum-abs, through, difference-abs}
 use native.Mathlib.Omega.{arith}
-use mathlib.Core.Path.{_≡_, _∙_, sym}
-use Prim.Native.Nat.{_≤_}
-use lib.IntN.{ℤ, pos, _-ℤ_, natAbs}
-use mir.Syntax.{w16}
-use mir.Val.{toZ, ofZ}
-use mir.ValLaws.{toZ-pos}
-use Rattle.bits.proofs.Signed.{fits, abs-add, thru}
+use mathlib.Core.Path.{_∙_, sym}
+use Rattle.bits.proofs.Signed.{fits, wide-fits}
 use Rattle.differences.specs.Difference.{middle, added}
-use Rattle.differences.proofs.KindLaws.{byte-abs, wide-is, wide-fits, through, middle-le, difference-abs}
 use borrow.Author.Needs.{needs}
 use Rattle.differences.proofs.steps.added.Statement.{statement}
 use Rattle.differences.proofs.steps.added.Tie as tie

@@ -1,3 +1,4 @@
+-- Kind by kind; of a level the grid tells.
 use borrow.Author.Tests.{le-leb, lt-leb}
 use native.Mathlib.Omega.{arith}
 use Rattle.differences.specs.Difference.{firstTable}

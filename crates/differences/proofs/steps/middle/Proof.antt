@@ -1,3 +1,4 @@
+-- Kind by kind. Of a level the grid tells, and a number of at most 30 goes through 16 bits unchanged.
 use mir.Syntax.{w16}
 use mathlib.Core.Bool.{Bool, true, false}
 use lib.IntN.{pos}
@@ -7,7 +8,6 @@ use Rattle.differences.proofs.KindLaws.{through, middle-le}
 use mathlib.Core.Path.{_≡_, _∙_, refl}
 use native.Mathlib.Omega.{arith}
 use Rattle.differences.specs.Difference.{middle}
-use Rattle.differences.proofs.KindLaws.{pick-thru}
 use borrow.Author.Needs.{needs}
 use Rattle.differences.proofs.steps.middle.Statement.{statement}
 use Rattle.differences.proofs.steps.middle.Tie as tie

@@ -1,10 +1,12 @@
+-- The word is the definition's, its entry is at most 60, so the sum goes through 16 bits unchanged and the test is the definition's; a sum in the range
+-- fits a byte.
 use Prim.Native.Nat.{_≤_}
 use mir.Val.{toZ, ofZ}
 use Rattle.differences.specs.Kind.{inRange}
 use denote.Ref.{now}
 use Rattle.bits.specs.Reader.{got}
 use native.Mathlib.Omega.{arith}
-use mathlib.Core.Path.{_≡_, _∙_, sym, ap}
+use mathlib.Core.Path.{_≡_, _∙_, sym}
 use mir.Syntax.{w8, w16}
 use mir.ValLaws.{toZ-ofZ}
 use lib.IntN.{natAbs}

@@ -1,5 +1,5 @@
+-- The table at hand is one of 12 to 21: each arm reads by its own, and only 21 is left for the last.
 use Prim.Native.Nat.{ℕ, _+_, _≤_}
-use Prim.Native.Nat.{ℕ}
 use native.Mathlib.Omega.{arith}
 use mathlib.Core.Path.{_≡_, _∙_}
 use borrow.Author.Needs.{needs}

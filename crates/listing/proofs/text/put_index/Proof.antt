@@ -1,4 +1,4 @@
-use Rattle.listing.proofs.Signs.{widened-index}
+use Rattle.bits.proofs.Signed.{wide-fits}
 use borrow.Author.Needs.{needs}
 use Rattle.listing.proofs.text.put_index.Statement.{statement}
 use Rattle.listing.proofs.text.put_index.Tie as tie
@@ -16,7 +16,7 @@ put-requires c κs = search needs
 cast-put-signed : tie.Need-cast-put-signed
 cast-put-signed c =
     let a = c .before .before .before .before .before .before .before in
-    widened-index (a .args .n) (a .fits .n)
+    wide-fits (a .args .n) (a .fits .n)
 
 put-signed-requires : tie.Need-put-signed-requires
 put-signed-requires c κs = search needs

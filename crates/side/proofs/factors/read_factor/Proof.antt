@@ -1,5 +1,4 @@
-use Prim.Native.Nat.{ℕ, _+_, _-_, _<_, _≤_}
-use mathlib.Core.Path.{_≡_, refl, sym, _∙_, ap}
+use mathlib.Core.Path.{sym}
 use native.Mathlib.Omega.{arith}
 use Rattle.side.proofs.FactorLaws.{entry-below, factor-none, factor-cut, factor-low, factor-high, factor-got}
 use Rattle.bits.proofs.Taken.{answered}

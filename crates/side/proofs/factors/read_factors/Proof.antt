@@ -1,11 +1,8 @@
-use Prim.Native.Nat.{ℕ, _+_, _-_, _<_, _≤_}
-use mathlib.Core.Path.{_≡_, refl, sym, _∙_, ap, subst}
+use Prim.Native.Nat.{_-_, _≤_}
+use mathlib.Core.Path.{_≡_, sym, _∙_}
 use native.Mathlib.Omega.{arith}
 use borrow.Author.Needs.{needs}
-use Rattle.bits.specs.declared.Field.{Field}
 use Rattle.side.specs.Factors.{firstFactors}
-use Rattle.bits.specs.Answers.{passedOn}
-use Rattle.side.specs.Answers.{Small}
 use Rattle.side.proofs.FactorLaws.{factored-is, rest, rest-start, rest-stop, rest-more, rest-done}
 use Rattle.side.proofs.factors.read_factors.Statement.{statement}
 use Rattle.side.proofs.factors.read_factors.Tie as tie

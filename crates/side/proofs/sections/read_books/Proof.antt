@@ -1,12 +1,10 @@
-use Prim.Native.Nat.{ℕ, suc, _+_, _*_, _-_, _<_, _≤_}
-use mathlib.Core.Path.{_≡_, refl, sym, _∙_, ap}
-use mathlib.Core.Bool.{true, false}
+use Prim.Native.Nat.{_*_, _-_, _≤_}
+use mathlib.Core.Path.{_≡_, sym, _∙_}
 use native.Mathlib.Omega.{arith}
 use borrow.Author.Needs.{needs}
 use borrow.Author.Tests.{not-true, not-false}
 use Rattle.spectrum.specs.Grouping.{groupsAfter, groupsOf}
-use Rattle.side.specs.Sections.{groupSections, groupBooks, widthOf}
-use Rattle.bits.specs.Answers.{endedAnswer}
+use Rattle.side.specs.Sections.{groupBooks, widthOf}
 use Rattle.side.proofs.SectionLaws.{books-stop, books-more, books-done, books-short, books-long}
 use Rattle.spectrum.proofs.BandLaws.{of-short, of-long}
 use Rattle.bits.proofs.Taken.{ended-is}

@@ -1,12 +1,10 @@
-use Prim.Native.Nat.{ℕ, _+_, _-_, _<_, _≤_, _^_}
-use mathlib.Core.Path.{_≡_, refl, sym, _∙_, ap}
+use Prim.Native.Nat.{ℕ, _+_, _-_, _≤_}
+use mathlib.Core.Path.{_≡_, sym, _∙_}
 use native.Mathlib.Omega.{arith}
 use borrow.Author.Needs.{needs}
-use Rattle.bits.specs.Answers.{fieldAnswer}
-use Rattle.side.specs.Sections.{groupSections, sectionLength}
-use Rattle.bits.specs.Answers.{endedAnswer, passedOn}
+use Rattle.side.specs.Sections.{groupSections}
 use Rattle.side.proofs.SectionLaws.{section-bounds, left, group-start, group-refused, group-book, group-length, group-more, group-done}
-use Rattle.bits.proofs.Taken.{answered, field-below}
+use Rattle.bits.proofs.Taken.{answered}
 use Rattle.side.proofs.sections.read_group.Statement.{statement}
 use Rattle.side.proofs.sections.read_group.Tie as tie
 use Rattle.side.proofs.sections.read_group.Reads as reads

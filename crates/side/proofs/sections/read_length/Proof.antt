@@ -1,13 +1,11 @@
 use Prim.Native.Nat.{ℕ, suc, _+_, _-_, _<_, _≤_, _^_}
-use mathlib.Core.Path.{_≡_, refl, sym, _∙_, ap}
+use mathlib.Core.Path.{_≡_, refl, sym, _∙_}
 use native.Mathlib.Omega.{arith}
 use lib.Pow.{pow-mono}
 use borrow.Author.Needs.{needs}
-use Rattle.bits.specs.Answers.{fieldAnswer}
 use Rattle.side.specs.Sections.{increments, sectionLength}
-use Rattle.side.proofs.SectionLaws.{length-refused, length-none, length-past, length-done, length-more}
+use Rattle.side.proofs.SectionLaws.{length-refused, length-none, length-past, length-done, length-more, shifted}
 use Rattle.bits.proofs.Taken.{answered, field-below}
-use Rattle.side.proofs.SectionLaws.{shifted}
 use Rattle.side.proofs.sections.read_length.Statement.{statement}
 use Rattle.side.proofs.sections.read_length.Tie as tie
 use Rattle.side.proofs.sections.read_length.Reads as reads

@@ -1,6 +1,4 @@
-use mathlib.Core.Path.{_≡_, refl, sym, _∙_, ap}
 use borrow.Author.Tests.{eq-eqb, ne-eqb}
-use Rattle.bits.specs.Answers.{fieldAnswer}
 use Rattle.bits.specs.Field.{zeroBit}
 use Rattle.bits.proofs.Taken.{answered}
 use borrow.Author.Needs.{needs}

@@ -1,12 +1,11 @@
-use Prim.Native.Nat.{ℕ, suc, _+_, _*_, _-_, _/_, _<_, _≤_}
-use mathlib.Core.Path.{_≡_, refl, sym, _∙_, ap}
+use Prim.Native.Nat.{_-_, _/_, _≤_}
+use mathlib.Core.Path.{_≡_, sym, _∙_}
 use native.Mathlib.Omega.{arith}
 use native.Mathlib.Nat.{div-le-self}
 use borrow.Author.Needs.{needs}
 use Rattle.bits.specs.Loop.{counted}
-use Rattle.spectrum.specs.Tuple.{dim, tuple}
-use Rattle.spectrum.specs.Spectrum.{put, bandWord, band}
-use Rattle.bits.specs.Answers.{endedAnswer}
+use Rattle.spectrum.specs.Tuple.{dim}
+use Rattle.spectrum.specs.Spectrum.{bandWord, band}
 use Rattle.bits.proofs.LoopLaws.{counted-start, counted-more, counted-stop, counted-done}
 use Rattle.spectrum.proofs.TupleLaws.{dim-small}
 use Rattle.spectrum.proofs.SpectrumLaws.{band-none, band-some, word-cut, word-got, words-fit}

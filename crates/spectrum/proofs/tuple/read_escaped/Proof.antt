@@ -1,12 +1,8 @@
-use Prim.Native.Nat.{ℕ, _+_, _<_, _≤_, _^_}
-use mathlib.Core.Path.{_≡_, refl, sym, _∙_, ap}
-use native.Mathlib.Omega.{arith}
+use mathlib.Core.Path.{sym, ap}
 use lib.ListN.{getD}
-use lib.IntN.{ℤ, pos, natAbs}
+use lib.IntN.{pos, natAbs}
 use mir.Syntax.{w16}
 use mir.ValLaws.{toZ-ofZ}
-use Rattle.spectrum.specs.Tuple.{escaped}
-use Rattle.bits.specs.Answers.{endedAnswer, passedOn}
 use Rattle.spectrum.proofs.TupleLaws.{is-16, is-minus-16, not-16, escape-bound, escaped-not, escaped-cut, escaped-plus, escaped-minus}
 use Rattle.bits.proofs.Taken.{answered}
 use borrow.Author.Needs.{needs}

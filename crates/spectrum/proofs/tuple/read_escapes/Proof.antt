@@ -1,10 +1,9 @@
-use Prim.Native.Nat.{ℕ, _+_, _-_, _<_, _≤_}
-use mathlib.Core.Path.{_≡_, refl, sym, _∙_, ap}
+use Prim.Native.Nat.{_-_, _≤_}
+use mathlib.Core.Path.{_≡_, sym, _∙_}
 use native.Mathlib.Omega.{arith}
 use borrow.Author.Needs.{needs}
 use Rattle.bits.specs.Loop.{counted}
 use Rattle.spectrum.specs.Tuple.{escaped}
-use Rattle.bits.specs.Answers.{endedAnswer}
 use Rattle.bits.proofs.LoopLaws.{counted-start, counted-more, counted-stop, counted-done}
 use Rattle.bits.proofs.Taken.{ended-is}
 use Rattle.spectrum.proofs.tuple.read_escapes.Statement.{statement}

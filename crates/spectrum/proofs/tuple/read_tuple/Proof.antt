@@ -1,8 +1,4 @@
-use Prim.Native.Nat.{ℕ, _+_, _<_, _≤_}
-use mathlib.Core.Path.{_≡_, refl, sym, _∙_, ap}
-use native.Mathlib.Omega.{arith}
-use Rattle.spectrum.specs.Tuple.{tuple}
-use Rattle.bits.specs.Answers.{endedAnswer, passedOn}
+use mathlib.Core.Path.{sym, _∙_}
 use Rattle.spectrum.proofs.TupleLaws.{tuple-word, tuple-values, tuple-plain, tuple-escapes}
 use Rattle.bits.proofs.Taken.{answered, ended-is}
 use borrow.Author.Needs.{needs}

@@ -1,11 +1,9 @@
-use Prim.Native.Nat.{ℕ, _+_, _<_, _≤_, _^_}
-use mathlib.Core.Path.{_≡_, refl, sym, _∙_, ap}
+use Prim.Native.Nat.{_≤_}
+use mathlib.Core.Path.{sym}
 use native.Mathlib.Omega.{arith}
-use lib.IntN.{ℤ, pos, negℤ}
+use lib.IntN.{pos, negℤ}
 use mir.Syntax.{w16}
 use mir.ValLaws.{toZ-ofZ, toZ-pos}
-use Rattle.spectrum.specs.Tuple.{offset, digit, signed, value}
-use Rattle.bits.specs.Answers.{endedAnswer, passedOn}
 use Rattle.bits.proofs.Signed.{fits, abs-add, abs-neg}
 use Rattle.spectrum.proofs.TupleLaws.{digit-small, offset-small, value-offset, value-none, value-cut, value-got}
 use Rattle.bits.proofs.Taken.{answered}

@@ -1,3 +1,4 @@
+-- No part where none is announced; 10 where fewer bits are left than announced; else the part is read up to its own end, and what is 10 there is 33.
 use Prim.Native.Nat.{ℕ, _<_, _≤_, _+_, _*_, _-_}
 use mathlib.Core.Path.{_≡_, _∙_, ap}
 use native.Mathlib.Omega.{arith}

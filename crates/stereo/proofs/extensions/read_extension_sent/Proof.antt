@@ -1,5 +1,6 @@
-use Prim.Native.Nat.{ℕ, _<_, _≤_, _+_, _^_}
-use mathlib.Core.Path.{_≡_, _∙_}
+-- A size of 4 bits and an escape of 8 are at most 270 bytes, so the sum fits; the part is then read as announced.
+use Prim.Native.Nat.{_<_, _≤_, _+_, _^_}
+use mathlib.Core.Path.{_∙_}
 use native.Mathlib.Omega.{arith}
 use Rattle.bits.proofs.Taken.{answered, field-below}
 use Rattle.stereo.specs.Extension.{extensionSent}

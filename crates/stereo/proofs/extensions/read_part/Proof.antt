@@ -1,8 +1,8 @@
-use Prim.Native.Nat.{_<_, _≤_, _-_}
-use mathlib.Core.Path.{_≡_, _∙_, ap}
+-- After the body at most 7 bits are fill, and are kept; more begin another id, which is refused.
+use Rattle.bits.proofs.Taken.{ended-is}
+use mathlib.Core.Path.{_∙_, ap}
 use Rattle.bits.specs.Answers.{endedAnswer}
 use Rattle.bits.specs.declared.Ended.{Ended}
-use Rattle.stereo.proofs.ReadLaws.{told}
 use Rattle.stereo.proofs.ExtensionLaws.{part-refused, part-another, part-fill}
 use borrow.Author.Needs.{needs}
 use Rattle.stereo.proofs.extensions.read_part.Statement.{statement}
@@ -31,7 +31,7 @@ returns : tie.Need-returns
 returns c =
     let t = c .before .enum-told .given .1 in
     let r = c .before .before .before .before in
-    ap (λ (x : Ended). endedAnswer x (c .no-part .result)) t ∙ part-refused _ _ _ _ _ _ _ _ _ (told (r .read-v0 .result .body) (r .read-v0 .ensures) t)
+    ap (λ (x : Ended). endedAnswer x (c .no-part .result)) t ∙ part-refused _ _ _ _ _ _ _ _ _ (ended-is (r .read-v0 .result .body) (r .read-v0 .ensures) t)
 
 remaining-requires : tie.Need-remaining-requires
 remaining-requires c κs = search needs
@@ -48,7 +48,7 @@ returns-2 c =
     let e = m .before .before in
     let r = e .before .before .before in
     rw (c .before .why-another .ensures)
-    (part-another _ _ _ _ _ _ _ _ _ (told (r .read-v0 .result .body) (r .read-v0 .ensures) (e .ended .given .1)) (rw (m .remaining .ensures) at (c .before .before .if1 .taken)))
+    (part-another _ _ _ _ _ _ _ _ _ (ended-is (r .read-v0 .result .body) (r .read-v0 .ensures) (e .ended .given .1)) (rw (m .remaining .ensures) at (c .before .before .if1 .taken)))
 
 bits-at-requires : tie.Need-bits-at-requires
 bits-at-requires c κs = search needs
@@ -62,7 +62,7 @@ returns-3 c =
     let e = m .before .before in
     let r = e .before .before .before in
     rw (c .bits-at .ensures, m .remaining .ensures)
-    (part-fill _ _ _ _ _ _ _ _ _ (told (r .read-v0 .result .body) (r .read-v0 .ensures) (e .ended .given .1)) (rw (m .remaining .ensures) at (c .before .if1 .left)))
+    (part-fill _ _ _ _ _ _ _ _ _ (ended-is (r .read-v0 .result .body) (r .read-v0 .ensures) (e .ended .given .1)) (rw (m .remaining .ensures) at (c .before .if1 .left)))
 
 pub read-part-spec : {M : Type 1} → statement M
 read-part-spec =

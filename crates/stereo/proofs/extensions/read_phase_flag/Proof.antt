@@ -1,4 +1,5 @@
-use mathlib.Core.Path.{_≡_, sym, _∙_, ap}
+-- The id is judged before the flag is read, and the flag at its own place: each refusal is the definition's.
+use mathlib.Core.Path.{sym, _∙_, ap}
 use borrow.Author.Tests.{eq-eqb, ne-eqb}
 use Rattle.bits.specs.Answers.{fieldAnswer}
 use Rattle.bits.proofs.Taken.{answered}

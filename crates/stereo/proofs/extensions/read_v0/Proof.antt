@@ -1,9 +1,10 @@
+-- The flag, the phases and the reserved bit, one after another: the first refusal stands.
 use Rattle.stereo.specs.declared.Body.{Body}
-use mathlib.Core.Path.{_≡_, _∙_, ap}
+use mathlib.Core.Path.{_∙_, ap}
 use Rattle.bits.specs.Answers.{endedAnswer}
 use Rattle.bits.specs.declared.Ended.{Ended}
-use Rattle.bits.proofs.Taken.{answered}
-use Rattle.stereo.proofs.ReadLaws.{passed, told}
+use Rattle.bits.proofs.Taken.{answered, ended-is}
+use Rattle.stereo.proofs.ReadLaws.{passed}
 use Rattle.stereo.proofs.ExtensionLaws.{v0-refused, v0-cut, v0-rest}
 use borrow.Author.Needs.{needs}
 use Rattle.stereo.proofs.extensions.read_v0.Statement.{statement}
@@ -55,7 +56,7 @@ returns-2 c =
     let r = c .before .before .before .before in
     let k = r .before .before in
     ap (λ (x : Ended). endedAnswer x (c .refused-body2 .result .body)) (c .refused-body2 .ensures ∙ t)
-    ∙ v0-cut _ _ _ _ _ _ _ _ _ _ _ (answered (k .before .before .read-phase-flag .ensures) (k .f1 .given .1)) (told (r .read-all-phases .result .phases) (r .read-all-phases .ensures) t)
+    ∙ v0-cut _ _ _ _ _ _ _ _ _ _ _ (answered (k .before .before .read-phase-flag .ensures) (k .f1 .given .1)) (ended-is (r .read-all-phases .result .phases) (r .read-all-phases .ensures) t)
 
 read-reserved-requires : tie.Need-read-reserved-requires
 read-reserved-requires c κs = search needs
@@ -70,7 +71,7 @@ returns-3 c =
     let r = e .before .before .before in
     let k = r .before .before in
     ap (λ (x : Ended). endedAnswer {A = Body} x (record { phase = k .f1 .given .0 .0; phases = r .read-all-phases .result .phases })) (c .passed-on2 .ensures)
-    ∙ v0-rest _ _ _ _ _ _ _ _ _ _ _ (answered (k .before .before .read-phase-flag .ensures) (k .f1 .given .1)) (told (r .read-all-phases .result .phases) (r .read-all-phases .ensures) (e .e2 .given .1))
+    ∙ v0-rest _ _ _ _ _ _ _ _ _ _ _ (answered (k .before .before .read-phase-flag .ensures) (k .f1 .given .1)) (ended-is (r .read-all-phases .result .phases) (r .read-all-phases .ensures) (e .e2 .given .1))
     (z .result) (z .ensures)
 
 pub read-v0-spec : {M : Type 1} → statement M

@@ -1,5 +1,6 @@
-use Prim.Native.Nat.{ℕ, _<_, _^_}
-use mathlib.Core.Path.{_≡_, _∙_}
+-- Class, count and borders, one after another; the count is at most 4 whatever the class.
+use Prim.Native.Nat.{_<_, _^_}
+use mathlib.Core.Path.{_∙_}
 use native.Mathlib.Omega.{arith}
 use Rattle.bits.proofs.Taken.{answered, field-below}
 use Rattle.stereo.specs.Frame.{frame}

@@ -1,4 +1,5 @@
-use mathlib.Core.Path.{_≡_, _∙_}
+-- Five fields, one after another: each `return` shows those that were there, and the one that was refused.
+use mathlib.Core.Path.{_∙_}
 use Rattle.bits.proofs.Taken.{answered}
 use Rattle.stereo.specs.Header.{headerFields}
 use Rattle.stereo.proofs.ReadLaws.{passed}

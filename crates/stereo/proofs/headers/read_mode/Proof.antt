@@ -1,3 +1,4 @@
+-- No mode is read where the kind is off; else three bits, judged at their place.
 use Rattle.bits.proofs.Taken.{answered}
 use Rattle.stereo.proofs.HeaderLaws.{mode-off, mode-got, mode-reserved, mode-refused}
 use borrow.Author.Needs.{needs}

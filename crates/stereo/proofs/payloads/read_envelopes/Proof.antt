@@ -1,7 +1,8 @@
-use mathlib.Core.Path.{_≡_, _∙_, ap}
+-- Levels, coherences and the extension, one after another: the first refusal stands.
+use Rattle.bits.proofs.Taken.{ended-is}
+use mathlib.Core.Path.{_∙_, ap}
 use Rattle.bits.specs.Answers.{endedAnswer}
 use Rattle.bits.specs.declared.Ended.{Ended}
-use Rattle.stereo.proofs.ReadLaws.{told}
 use Rattle.stereo.proofs.ContentsLaws.{iid-refused, icc-refused, envelopes-rest}
 use borrow.Author.Needs.{needs}
 use Rattle.stereo.proofs.payloads.read_envelopes.Statement.{statement}
@@ -30,7 +31,7 @@ returns c =
     let t = c .before .enum-told .given .1 in
     let r = c .before .before .before .before in
     ap (λ (x : Ended). endedAnswer x (c .refused-contents .result .contents)) (c .refused-contents .ensures ∙ t)
-    ∙ iid-refused _ _ _ _ _ _ _ _ _ (told (r .read-levels .result .rows) (r .read-levels .ensures) t)
+    ∙ iid-refused _ _ _ _ _ _ _ _ _ (ended-is (r .read-levels .result .rows) (r .read-levels .ensures) t)
 
 read-coherences-requires : tie.Need-read-coherences-requires
 read-coherences-requires c κs = search needs
@@ -51,7 +52,7 @@ returns-2 c =
     let e = q .before .before in
     let r = e .before .before .before in
     ap (λ (x : Ended). endedAnswer x (c .refused-contents2 .result .contents)) (c .refused-contents2 .ensures ∙ t)
-    ∙ icc-refused _ _ _ _ _ _ _ _ _ _ _ (told (r .read-levels .result .rows) (r .read-levels .ensures) (e .e1 .given .1)) (told (q .read-coherences .result .rows) (q .read-coherences .ensures) t)
+    ∙ icc-refused _ _ _ _ _ _ _ _ _ _ _ (ended-is (r .read-levels .result .rows) (r .read-levels .ensures) (e .e1 .given .1)) (ended-is (q .read-coherences .result .rows) (q .read-coherences .ensures) t)
 
 read-rest-requires : tie.Need-read-rest-requires
 read-rest-requires c κs = search needs
@@ -63,7 +64,7 @@ returns-3 c =
     let q = d .before .before .before in
     let e = q .before .before in
     let r = e .before .before .before in
-    envelopes-rest _ _ _ _ _ _ _ _ _ _ _ (told (r .read-levels .result .rows) (r .read-levels .ensures) (e .e1 .given .1)) (told (q .read-coherences .result .rows) (q .read-coherences .ensures) (d .e2 .given .1))
+    envelopes-rest _ _ _ _ _ _ _ _ _ _ _ (ended-is (r .read-levels .result .rows) (r .read-levels .ensures) (e .e1 .given .1)) (ended-is (q .read-coherences .result .rows) (q .read-coherences .ensures) (d .e2 .given .1))
     (x .result .ended) (x .result .extension) (x .ensures)
 
 pub read-envelopes-spec : {M : Type 1} → statement M

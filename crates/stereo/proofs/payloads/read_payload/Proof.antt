@@ -1,8 +1,8 @@
-use mathlib.Core.Path.{_≡_, _∙_, ap}
+-- Header, frame and envelopes, one after another: the first refusal stands, and the set-up is the one after the header.
+use Rattle.bits.proofs.Taken.{ended-is}
+use mathlib.Core.Path.{_∙_, ap}
 use Rattle.bits.specs.Answers.{endedAnswer}
 use Rattle.bits.specs.declared.Ended.{Ended}
-use Rattle.stereo.specs.Payload.{envelopes}
-use Rattle.stereo.proofs.ReadLaws.{told}
 use Rattle.stereo.proofs.ContentsLaws.{header-refused, frame-refused, payload-rest}
 use borrow.Author.Needs.{needs}
 use Rattle.stereo.proofs.payloads.read_payload.Statement.{statement}
@@ -32,7 +32,7 @@ returns c =
     let t = c .before .enum-told .given .1 in
     let r = c .before .before .before .before in
     ap (λ (x : Ended). endedAnswer x (c .refused-contents .result .contents)) (c .refused-contents .ensures ∙ t)
-    ∙ header-refused _ _ _ _ _ _ (told (r .read-header .result .header) (r .read-header .ensures) t)
+    ∙ header-refused _ _ _ _ _ _ (ended-is (r .read-header .result .header) (r .read-header .ensures) t)
 
 read-frame-requires : tie.Need-read-frame-requires
 read-frame-requires c κs = search needs
@@ -53,7 +53,7 @@ returns-2 c =
     let e = q .before .before in
     let r = e .before .before .before in
     ap (λ (x : Ended). endedAnswer x (c .refused-contents2 .result .contents)) (c .refused-contents2 .ensures ∙ t)
-    ∙ frame-refused _ _ _ _ _ _ _ _ (told (r .read-header .result .header) (r .read-header .ensures) (e .e1 .given .1)) (told (q .read-frame .result .frame) (q .read-frame .ensures .0) t)
+    ∙ frame-refused _ _ _ _ _ _ _ _ (ended-is (r .read-header .result .header) (r .read-header .ensures) (e .e1 .given .1)) (ended-is (q .read-frame .result .frame) (q .read-frame .ensures .0) t)
 
 setup-after-requires : tie.Need-setup-after-requires
 setup-after-requires c κs = search needs
@@ -68,7 +68,7 @@ returns-3 c =
     let e = q .before .before in
     let r = e .before .before .before in
     rw (c .before .setup-after .ensures) at (c .read-envelopes .ensures)
-    ∙ payload-rest _ _ _ _ _ _ _ _ (told (r .read-header .result .header) (r .read-header .ensures) (e .e1 .given .1)) (told (q .read-frame .result .frame) (q .read-frame .ensures .0) (d .e2 .given .1))
+    ∙ payload-rest _ _ _ _ _ _ _ _ (ended-is (r .read-header .result .header) (r .read-header .ensures) (e .e1 .given .1)) (ended-is (q .read-frame .result .frame) (q .read-frame .ensures .0) (d .e2 .given .1))
 
 pub read-payload-spec : {M : Type 1} → statement M
 read-payload-spec =

@@ -1,6 +1,7 @@
-use mathlib.Core.Path.{_≡_, sym, _∙_}
+-- 35 where contents are not accepted; else the state after them is carried from the state that they were read from.
+use borrow.Author.Tests.{not-true, not-false}
+use mathlib.Core.Path.{sym, _∙_}
 use Rattle.stereo.specs.Stereo.{taken}
-use Rattle.differences.proofs.KindLaws.{not-true, not-false}
 use borrow.Author.Needs.{needs}
 use Rattle.stereo.proofs.readings.judged.Statement.{statement}
 use Rattle.stereo.proofs.readings.judged.Tie as tie

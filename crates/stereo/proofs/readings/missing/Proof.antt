@@ -1,6 +1,6 @@
-use mathlib.Core.Path.{_≡_, sym, _∙_}
+use borrow.Author.Tests.{not-true, not-false}
+use mathlib.Core.Path.{sym, _∙_}
 use Rattle.stereo.specs.Stereo.{missing}
-use Rattle.differences.proofs.KindLaws.{not-true, not-false}
 use borrow.Author.Needs.{needs}
 use Rattle.stereo.proofs.readings.missing.Statement.{statement}
 use Rattle.stereo.proofs.readings.missing.Tie as tie

@@ -1,7 +1,7 @@
-use mathlib.Core.Path.{_≡_, sym, _∙_}
-use borrow.Author.Tests.{le-leb, lt-leb}
+-- Each `return` shows the tests of `readFrom` up to the one that failed; the part of the buffer is the range.
+use mathlib.Core.Path.{sym, _∙_}
+use borrow.Author.Tests.{le-leb, lt-leb, not-true, not-false}
 use Rattle.stereo.specs.Stereo.{readFrom}
-use Rattle.differences.proofs.KindLaws.{not-true, not-false}
 use borrow.Author.Needs.{needs}
 use Rattle.stereo.proofs.readings.read.Statement.{statement}
 use Rattle.stereo.proofs.readings.read.Tie as tie

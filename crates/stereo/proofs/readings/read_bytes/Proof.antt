@@ -1,5 +1,6 @@
-use mathlib.Core.Path.{_≡_, sym, _∙_}
-use Rattle.stereo.proofs.ReadLaws.{told}
+-- No payload uses more than 8,192 bits, so looking at 1,025 bytes answers what looking at all of them would (`whole-near`).
+use Rattle.bits.proofs.Taken.{ended-is}
+use mathlib.Core.Path.{_∙_}
 use Rattle.stereo.proofs.BytesLaws.{bytes-left, bytes-got, bytes-refused}
 use borrow.Author.Needs.{needs}
 use Rattle.stereo.proofs.readings.read_bytes.Statement.{statement}
@@ -54,7 +55,7 @@ returns c =
     let e = m .before .before in
     let r = e .before .before .before in
     let f = r .before .before .before in
-    let q = rw (f .read-from .ensures, f .before .looked-at .ensures) at (told (r .read-payload .result .contents) (r .read-payload .ensures) (e .ended .given .1)) in
+    let q = rw (f .read-from .ensures, f .before .looked-at .ensures) at (ended-is (r .read-payload .result .contents) (r .read-payload .ensures) (e .ended .given .1)) in
     c .refused-at .ensures ∙ bytes-left _ _ _ _ q (rw (m .remaining .ensures, f .before .looked-at .ensures) at (c .before .if1 .taken))
 
 judged-requires : tie.Need-judged-requires
@@ -72,7 +73,7 @@ returns-2 c =
     let e = m .before .before in
     let r = e .before .before .before in
     let f = r .before .before .before in
-    let q = rw (f .read-from .ensures, f .before .looked-at .ensures) at (told (r .read-payload .result .contents) (r .read-payload .ensures) (e .ended .given .1)) in
+    let q = rw (f .read-from .ensures, f .before .looked-at .ensures) at (ended-is (r .read-payload .result .contents) (r .read-payload .ensures) (e .ended .given .1)) in
     c .judged .ensures ∙ bytes-got _ _ _ _ q (rw (m .remaining .ensures, f .before .looked-at .ensures) at (c .before .if1 .left))
 
 returns-3 : tie.Need-returns-3
@@ -80,7 +81,7 @@ returns-3 c =
     let e = c .before .before in
     let r = e .before .before .before in
     let f = r .before .before .before in
-    let q = rw (f .read-from .ensures, f .before .looked-at .ensures) at (told (r .read-payload .result .contents) (r .read-payload .ensures) (e .ended2 .given .1)) in
+    let q = rw (f .read-from .ensures, f .before .looked-at .ensures) at (ended-is (r .read-payload .result .contents) (r .read-payload .ensures) (e .ended2 .given .1)) in
     c .refused-at2 .ensures ∙ bytes-refused _ _ _ _ q
 
 pub read-bytes-spec : {M : Type 1} → statement M

@@ -1,5 +1,6 @@
-use mathlib.Core.Path.{_≡_, sym, _∙_}
-use Rattle.differences.proofs.KindLaws.{not-true, not-false}
+-- Each `return` shows the tests of `soundSetup` up to the one that failed.
+use borrow.Author.Tests.{not-true, not-false}
+use mathlib.Core.Path.{sym, _∙_}
 use Rattle.stereo.specs.State.{soundSetup}
 use borrow.Author.Needs.{needs}
 use Rattle.stereo.proofs.states.is_sound_setup.Statement.{statement}

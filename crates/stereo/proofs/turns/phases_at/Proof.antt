@@ -1,7 +1,8 @@
-use Prim.Native.Nat.{_<_, _≤_}
+-- An envelope of the four is in the array; any other has the phases that were not sent.
+use Prim.Native.Nat.{_≤_}
 use mathlib.Core.Path.{_≡_, sym, _∙_}
 use native.Mathlib.Omega.{arith}
-use lib.ListN.{length, getD, List·getD-eq-default}
+use lib.ListN.{length, List·getD-eq-default}
 use Rattle.stereo.specs.Extension.{noPhases}
 use Rattle.stereo.proofs.TurnLaws.{getD-there}
 use borrow.Author.Needs.{needs}

@@ -1,8 +1,7 @@
 use mathlib.Core.Path.{_≡_}
 use mathlib.Core.Bool.{true, false}
-use borrow.Author.Tests.{eq-eqb, ne-eqb}
+use borrow.Author.Tests.{eq-eqb, ne-eqb, not-true, not-false}
 use Rattle.stereo.specs.Carried.{recordAfter}
-use Rattle.differences.proofs.KindLaws.{not-true, not-false}
 use borrow.Author.Needs.{needs}
 use Rattle.stereo.proofs.turns.record_after.Statement.{statement}
 use Rattle.stereo.proofs.turns.record_after.Tie as tie

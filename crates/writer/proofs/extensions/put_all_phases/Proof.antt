@@ -1,4 +1,4 @@
-use Rattle.writer.proofs.WroteLaws.{wrote-none, wrote-nothing, wrote-then, wrote-as, wrote-most, wrote-length, room-after, each-more, taken-whole, ipd-more, opd-more}
+use Rattle.writer.proofs.WroteLaws.{wrote-none, wrote-nothing, wrote-then, wrote-as, wrote-most, wrote-length, room-after, each-more, taken-whole, record-more}
 use Rattle.writer.specs.Spelling.{spellPhases, spellAllPhases}
 use Rattle.writer.specs.Wrote.{Wrote}
 use Rattle.stereo.specs.Extension.{ipds, opds}
@@ -65,8 +65,8 @@ loop-again c = let w = c .before .before .before .before .before .before in
       omega arith,
       omega arith,
       n,
-      ipd-more (a .records .ipd) (a .mode) (a .t7) (l .loop .k) _ (omega arith),
-      opd-more (a .records .opd) (a .mode) (a .t7) (l .loop .k) _ (omega arith),
+      record-more (λ p. p .ipd) ipds refl (λ p ps. refl) (a .records .ipd) (a .mode) (a .t7) (l .loop .k) _ (omega arith),
+      record-more (λ p. p .opd) opds refl (λ p ps. refl) (a .records .opd) (a .mode) (a .t7) (l .loop .k) _ (omega arith),
       wrote-as (wrote-then (l .loop .inv .5) (w .put-phases .ensures) (omega arith))
           (rw (l .loop .inv .3, l .loop .inv .4) (each-more (spellPhases (a .mode) (a .records .ipd) (a .records .opd)) _ (a .t7) (l .loop .k) (omega arith))),
     )

@@ -2,8 +2,8 @@ use mir.ValLaws.{toZ-ofZ}
 use mir.Syntax.{w8, w16}
 use Rattle.writer.proofs.EntryLaws.{step, gap-fits, step-fits, step-thru, step-abs}
 use Rattle.writer.specs.Spelling.{entryTo}
-use Rattle.differences.proofs.KindLaws.{wide-fits, neg-parts, not-neg}
-use Rattle.bits.proofs.Signed.{fits, thru}
+use Rattle.differences.proofs.KindLaws.{neg-parts}
+use Rattle.bits.proofs.Signed.{fits, thru, wide-fits, not-neg}
 use lib.IntN.{pos, _-ℤ_, natAbs}
 use native.Mathlib.Omega.{arith}
 use Prim.Native.Nat.{_≤_}

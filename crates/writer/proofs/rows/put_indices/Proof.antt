@@ -1,5 +1,4 @@
-use Rattle.writer.proofs.WroteLaws.{wrote-length}
-use Rattle.writer.proofs.WroteLaws.{wrote-none, wrote-then, wrote-as, wrote-most, room-after, each-more}
+use Rattle.writer.proofs.WroteLaws.{wrote-length, wrote-none, wrote-then, wrote-as, wrote-most, room-after, each-more}
 use Rattle.writer.specs.Spelling.{spellIndex}
 use Rattle.writer.specs.Wrote.{Wrote}
 use Rattle.differences.specs.Kind.{bands}

@@ -1,4 +1,4 @@
-use Rattle.writer.proofs.WroteLaws.{wrote-none, wrote-nothing, wrote-then, wrote-as, wrote-most, wrote-length, room-after, each-more, taken-whole, held-more}
+use Rattle.writer.proofs.WroteLaws.{wrote-none, wrote-nothing, wrote-then, wrote-as, wrote-most, wrote-length, room-after, each-more, taken-whole, record-more}
 use Rattle.writer.specs.Spelling.{spellNext, spellRows}
 use Rattle.writer.specs.Wrote.{Wrote}
 use Rattle.differences.specs.Rows.{heldAfter}
@@ -63,7 +63,7 @@ loop-again c = let l = c .before .before .before .before .before .before .before
       omega arith,
       omega arith,
       n,
-      held-more (a .held) (a .mode) (a .t8) (l .loop .k) _ (omega arith),
+      record-more (λ r. r) (λ rs. rs) refl (λ r rs. refl) (a .held) (a .mode) (a .t8) (l .loop .k) _ (omega arith),
       wrote-as (wrote-then (l .loop .inv .4) (c .before .before .before .put-row .ensures) (omega arith))
           (rw (l .loop .inv .3) (each-more (spellNext (a .kind) (a .mode) (a .held)) _ (a .t8) (l .loop .k) (omega arith))),
     )

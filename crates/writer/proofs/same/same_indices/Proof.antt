@@ -1,11 +1,10 @@
-use Rattle.writer.proofs.ListSame.{index-same, index-differs}
+use Rattle.writer.proofs.ListSame.{index-same, index-differs, SoFar, same-start, same-more, same-stop, same-done}
 use mir.ValLaws.{toZ-ofZ}
 use mir.Val.{SFits, toZ, ofZ}
 use mir.Syntax.{w8}
 use lib.IntN.{pos}
 use lib.ListN.{getD}
 use mathlib.Core.Path.{sym, _∙_, ap}
-use Rattle.writer.proofs.ListSame.{SoFar, same-start, same-more, same-stop, same-done}
 use Rattle.writer.specs.Same.{sameIndex}
 use borrow.Author.Needs.{needs}
 use native.Mathlib.Omega.{arith}

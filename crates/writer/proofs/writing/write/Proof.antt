@@ -31,7 +31,9 @@ refused-requires c κs = search needs
 
 returns : tie.Need-returns
 unfolding writing writtenOver
-returns c = (c .refused .ensures ∙ rw (← (c .before .before .is-sound .ensures), not-true (c .before .before .is-sound .result) (c .before .if1 .taken)), rw (c .refused .ensures))
+returns c =
+    let at-sound = c .before .before in
+    (c .refused .ensures ∙ rw (← (at-sound .is-sound .ensures), not-true (at-sound .is-sound .result) (c .before .if1 .taken)), rw (c .refused .ensures))
 
 read-from-requires : tie.Need-read-from-requires
 read-from-requires c κs = search needs
@@ -47,7 +49,20 @@ refused-requires-2 c κs = search needs
 
 returns-2 : tie.Need-returns-2
 unfolding writing writtenOver
-returns-2 c = (c .refused2 .ensures ∙ rw (← (c .before .before .before .before .before .before .before .before .is-sound .ensures), not-false (c .before .before .before .before .before .before .before .before .is-sound .result) (c .before .before .before .before .before .before .before .if1 .left), ← (c .before .before .before .before .before .before .read-from .ensures), ← (c .before .before .before .before .spell .ensures .2), not-true (c .before .before .before .before .spell .result .can) (c .before .if2 .taken)), rw (c .refused2 .ensures))
+returns-2 c =
+    let at-spell = c .before .before .before .before in
+    let at-from = at-spell .before .before in
+    let at-sound = at-from .before .before in (
+      c .refused2 .ensures
+          ∙ rw (
+            ← (at-sound .is-sound .ensures),
+            not-false (at-sound .is-sound .result) (at-from .before .if1 .left),
+            ← (at-from .read-from .ensures),
+            ← (at-spell .spell .ensures .2),
+            not-true (at-spell .spell .result .can) (c .before .if2 .taken),
+          ),
+      rw (c .refused2 .ensures),
+    )
 
 is-accepted-requires : tie.Need-is-accepted-requires
 is-accepted-requires c κs = search needs
@@ -57,7 +72,23 @@ refused-requires-3 c κs = search needs
 
 returns-3 : tie.Need-returns-3
 unfolding writing writtenOver
-returns-3 c = (c .refused3 .ensures ∙ rw (← (c .before .before .before .before .before .before .before .before .before .before .is-sound .ensures), not-false (c .before .before .before .before .before .before .before .before .before .before .is-sound .result) (c .before .before .before .before .before .before .before .before .before .if1 .left), ← (c .before .before .before .before .before .before .before .before .read-from .ensures), ← (c .before .before .before .before .before .before .spell .ensures .2), not-false (c .before .before .before .before .before .before .spell .result .can) (c .before .before .before .if2 .left), ← (c .before .before .is-accepted .ensures), not-true (c .before .before .is-accepted .result) (c .before .if3 .taken)), rw (c .refused3 .ensures))
+returns-3 c =
+    let at-accepted = c .before .before in
+    let at-spell = at-accepted .before .before .before .before in
+    let at-from = at-spell .before .before in
+    let at-sound = at-from .before .before in (
+      c .refused3 .ensures
+          ∙ rw (
+            ← (at-sound .is-sound .ensures),
+            not-false (at-sound .is-sound .result) (at-from .before .if1 .left),
+            ← (at-from .read-from .ensures),
+            ← (at-spell .spell .ensures .2),
+            not-false (at-spell .spell .result .can) (at-accepted .before .if2 .left),
+            ← (at-accepted .is-accepted .ensures),
+            not-true (at-accepted .is-accepted .result) (c .before .if3 .taken),
+          ),
+      rw (c .refused3 .ensures),
+    )
 
 bytes-for-requires : tie.Need-bytes-for-requires
 bytes-for-requires c κs = search needs
@@ -67,9 +98,28 @@ refused-requires-4 c κs = search needs
 
 returns-4 : tie.Need-returns-4
 unfolding writing writtenOver
-returns-4 c = let e : leb (bytesFor (total (spelling (c .before .before .before .before .before .before .before .before .before .before .read-from .result) (c .before .before .before .before .before .before .before .before .before .before .before .before .before .before .args .contents)))) (length (c .before .before .before .before .before .before .before .before .before .before .before .before .before .before .args .out .now)) ≡ false =
-    rw (← (c .before .before .before .before .before .before .before .before .spell .ensures .0), ← (c .before .before .bytes-for .ensures)) (lt-leb _ _ (c .before .if4 .taken)) in
-    (c .refused4 .ensures ∙ rw (← (c .before .before .before .before .before .before .before .before .before .before .before .before .is-sound .ensures), not-false (c .before .before .before .before .before .before .before .before .before .before .before .before .is-sound .result) (c .before .before .before .before .before .before .before .before .before .before .before .if1 .left), ← (c .before .before .before .before .before .before .before .before .before .before .read-from .ensures), ← (c .before .before .before .before .before .before .before .before .spell .ensures .2), not-false (c .before .before .before .before .before .before .before .before .spell .result .can) (c .before .before .before .before .before .if2 .left), ← (c .before .before .before .before .is-accepted .ensures), not-false (c .before .before .before .before .is-accepted .result) (c .before .before .before .if3 .left), e), rw (c .refused4 .ensures))
+returns-4 c =
+    let at-count = c .before .before in
+    let at-accepted = at-count .before .before in
+    let at-spell = at-accepted .before .before .before .before in
+    let at-from = at-spell .before .before in
+    let at-sound = at-from .before .before in
+    let args = at-sound .before .before .args in
+    let short : leb (bytesFor (total (spelling (at-from .read-from .result) (args .contents)))) (length (args .out .now)) ≡ false =
+    rw (← (at-spell .spell .ensures .0), ← (at-count .bytes-for .ensures)) (lt-leb _ _ (c .before .if4 .taken)) in (
+      c .refused4 .ensures
+          ∙ rw (
+            ← (at-sound .is-sound .ensures),
+            not-false (at-sound .is-sound .result) (at-from .before .if1 .left),
+            ← (at-from .read-from .ensures),
+            ← (at-spell .spell .ensures .2),
+            not-false (at-spell .spell .result .can) (at-accepted .before .if2 .left),
+            ← (at-accepted .is-accepted .ensures),
+            not-false (at-accepted .is-accepted .result) (at-count .before .if3 .left),
+            short,
+          ),
+      rw (c .refused4 .ensures),
+    )
 
 slice-aggregate-copy-out : tie.Need-slice-aggregate-copy-out
 slice-aggregate-copy-out c = search needs
@@ -85,11 +135,32 @@ same-length c = search needs
 
 returns-5 : tie.Need-returns-5
 unfolding writing writtenOver
-returns-5 c = let e : leb (bytesFor (total (spelling (c .before .before .before .before .before .before .before .before .before .before .before .before .before .before .before .read-from .result) (c .before .before .before .before .before .before .before .before .before .before .before .before .before .before .before .before .before .before .before .args .contents)))) (length (c .before .before .before .before .before .before .before .before .before .before .before .before .before .before .before .before .before .before .before .args .out .now)) ≡ true =
-    rw (← (c .before .before .before .before .before .before .before .before .before .before .before .before .before .spell .ensures .0), ← (c .before .before .before .before .before .before .before .bytes-for .ensures)) (le-leb _ _ (c .before .before .before .before .before .before .if4 .left)) in
-    let s = c .before .before .before .before .before .before .before .before .before .before .before .before .before .spell .ensures in
-    let k = scratch-bytes 1536 (spelling (c .before .before .before .before .before .before .before .before .before .before .before .before .before .before .before .read-from .result) (c .before .before .before .before .before .before .before .before .before .before .before .before .before .before .before .before .before .before .before .args .contents)) (omega (arith, s .0, s .1)) in
-    (rw (← (c .before .before .before .before .before .before .before .before .before .before .before .before .before .before .before .before .before .is-sound .ensures), not-false (c .before .before .before .before .before .before .before .before .before .before .before .before .before .before .before .before .before .is-sound .result) (c .before .before .before .before .before .before .before .before .before .before .before .before .before .before .before .before .if1 .left), ← (c .before .before .before .before .before .before .before .before .before .before .before .before .before .before .before .read-from .ensures), ← (c .before .before .before .before .before .before .before .before .before .before .before .before .before .spell .ensures .2), not-false (c .before .before .before .before .before .before .before .before .before .before .before .before .before .spell .result .can) (c .before .before .before .before .before .before .before .before .before .before .if2 .left), ← (c .before .before .before .before .before .before .before .before .before .is-accepted .ensures), not-false (c .before .before .before .before .before .before .before .before .before .is-accepted .result) (c .before .before .before .before .before .before .before .before .if3 .left), e, s .0, c .carried .ensures), c .before .before .before .copy-out .ensures ∙ rw (c .before .before .before .before .before .before .before .bytes-for .ensures, s .0, s .3, k, ← (c .before .before .before .before .before .before .before .before .before .before .before .before .before .before .before .read-from .ensures)))
+returns-5 c =
+    let at-copy = c .before .before .before in
+    let at-count = at-copy .before .before .before .before in
+    let at-accepted = at-count .before .before in
+    let at-spell = at-accepted .before .before .before .before in
+    let at-from = at-spell .before .before in
+    let at-sound = at-from .before .before in
+    let args = at-sound .before .before .args in
+    let spelled = at-spell .spell .ensures in
+    let fits : leb (bytesFor (total (spelling (at-from .read-from .result) (args .contents)))) (length (args .out .now)) ≡ true =
+    rw (← (spelled .0), ← (at-count .bytes-for .ensures)) (le-leb _ _ (at-copy .before .before .before .if4 .left)) in
+    let bytes = scratch-bytes 1536 (spelling (at-from .read-from .result) (args .contents)) (omega (arith, spelled .0, spelled .1)) in (
+      rw (
+        ← (at-sound .is-sound .ensures),
+        not-false (at-sound .is-sound .result) (at-from .before .if1 .left),
+        ← (at-from .read-from .ensures),
+        ← (spelled .2),
+        not-false (at-spell .spell .result .can) (at-accepted .before .if2 .left),
+        ← (at-accepted .is-accepted .ensures),
+        not-false (at-accepted .is-accepted .result) (at-count .before .if3 .left),
+        fits,
+        spelled .0,
+        c .carried .ensures,
+      ),
+      at-copy .copy-out .ensures ∙ rw (at-count .bytes-for .ensures, spelled .0, spelled .3, bytes, ← (at-from .read-from .ensures)),
+    )
 
 pub write-spec : {M : Type 1} → statement M
 write-spec =
