@@ -62,6 +62,7 @@ static void play_payloads(size_t size, uint32_t count, uint32_t index)
     }
 }
 
+/* An image whose header is unsound is refused as a whole. */
 int main(void)
 {
     uint8_t header[OARCRADLER_HEADER];

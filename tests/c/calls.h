@@ -21,12 +21,19 @@ struct image_call {
     struct lent image, answer;
 };
 
+/* A fresh state is put in a lent one. */
 uint32_t call_fresh(struct lent *state);
+/* A payload is reported missing. */
 uint32_t call_missing(struct lent *state);
+/* A stereo payload is read from start to end of the lent buffer. */
 uint32_t call_read_stereo(struct stereo_call *call, uint32_t start, uint32_t end);
+/* Lent contents are written. */
 uint32_t call_write_stereo(struct write_call *call);
+/* A channel stream is read from start to end of the lent buffer. */
 uint32_t call_read_channel(struct channel_call *call, uint32_t start, uint32_t end, uint32_t index);
+/* The header of a lent image is read. */
 uint32_t call_read_header(struct image_call *call);
+/* The payload k of a lent image is found. */
 uint32_t call_find_part(struct image_call *call, uint32_t k);
 
 #endif

@@ -6,6 +6,7 @@
 static const char *const kinds[4] = { "iid", "icc", "ipd", "opd" };
 static uint8_t image[65536];
 
+/* A word and some bytes as numbers. */
 static void print_bytes(const char *word, const uint8_t *bytes, size_t count)
 {
     printf("%s", word);
@@ -14,6 +15,7 @@ static void print_bytes(const char *word, const uint8_t *bytes, size_t count)
     printf("\n");
 }
 
+/* 34 indices. */
 static void print_indices(const uint8_t *indices)
 {
     for (int k = 0; k < OARCRADLER_INDICES; k++)
@@ -21,6 +23,7 @@ static void print_indices(const uint8_t *indices)
     printf("\n");
 }
 
+/* A channel stream that was read. */
 static void print_channel(uint32_t k, const int16_t *lines, const uint8_t *factors, const uint8_t *books, const uint8_t *answer)
 {
     size_t groups = answer[OARCRADLER_CHANNEL_GROUP_COUNT], used = groups * answer[OARCRADLER_CHANNEL_MAX_SFB];
@@ -41,6 +44,7 @@ static void print_channel(uint32_t k, const int16_t *lines, const uint8_t *facto
     printf("\n");
 }
 
+/* A channel stream, read or refused. */
 static void dump_channel(uint32_t k, size_t size, uint32_t start, uint32_t end, uint32_t index)
 {
     static int16_t lines[OARCRADLER_LINES];
@@ -62,6 +66,7 @@ static void print_mode(const char *word, int there, uint8_t mode)
         printf(" %s -", word);
 }
 
+/* A stereo payload's header. */
 static void print_header(const uint8_t *answer)
 {
     if (!answer[OARCRADLER_STEREO_HEADER]) {
@@ -90,6 +95,7 @@ static void print_envelope(unsigned e, const uint8_t *state, const uint8_t *answ
     }
 }
 
+/* A stereo payload's extension. */
 static void print_extension(const uint8_t *answer)
 {
     unsigned size = answer[OARCRADLER_STEREO_SIZE] + answer[OARCRADLER_STEREO_ESC], count = answer[OARCRADLER_STEREO_FILL_COUNT];
@@ -106,6 +112,7 @@ static void print_extension(const uint8_t *answer)
     printf("\n");
 }
 
+/* The stereo state. */
 static void print_state(const uint8_t *state)
 {
     static const size_t records[4] = { OARCRADLER_STATE_IID, OARCRADLER_STATE_ICC, OARCRADLER_STATE_IPD, OARCRADLER_STATE_OPD };
@@ -126,6 +133,7 @@ static void print_state(const uint8_t *state)
     }
 }
 
+/* A stereo payload, read or refused, and the state after it. */
 static void dump_stereo(uint32_t k, size_t size, uint32_t start, uint32_t end, uint8_t *state)
 {
     static uint8_t answer[OARCRADLER_STEREO];
@@ -145,6 +153,7 @@ static void dump_stereo(uint32_t k, size_t size, uint32_t start, uint32_t end, u
     print_state(state);
 }
 
+/* An image, payload by payload. */
 int main(void)
 {
     uint8_t header[OARCRADLER_HEADER], part[OARCRADLER_PART], state[OARCRADLER_STATE];

@@ -22,6 +22,7 @@ static int next_image(uint8_t *image, size_t room, size_t *size)
     return fread(image, 1, *size, stdin) == *size;
 }
 
+/* Known numbers first, then the images. */
 int main(void)
 {
     static uint8_t image[MOST_LENT];

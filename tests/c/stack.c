@@ -115,6 +115,7 @@ static void measure_image(void)
     }
 }
 
+/* Every image, then what each function took. */
 int main(void)
 {
     uint8_t word[4];

@@ -17,6 +17,7 @@ static void fresh(uint8_t *state)
         state[records[kind]] = 7;
 }
 
+/* A fresh state in buffers of each size. */
 static void test_fresh(void)
 {
     static struct lent lent;
