@@ -168,15 +168,13 @@ fn frame_bytes(frame: Frame) -> [u8; 6]
 fn extension_bytes(extension: Extension) -> [u8; 6]
     ensures { λ r. ⌜ r ≡ extensionBytes extension ⌝ }
 {
-    let part = extension.part;
-    let body = part.body;
     [
         bytes::byte_of(extension.there),
         bytes::byte_of(extension.size),
         bytes::byte_of(extension.esc),
-        bytes::byte_of(body.phase),
-        bytes::low_byte(part.count),
-        bytes::byte_of(part.value),
+        bytes::byte_of(extension.part.body.phase),
+        bytes::low_byte(extension.part.count),
+        bytes::byte_of(extension.part.value),
     ]
 }
 
@@ -237,9 +235,6 @@ pub fn put_answer(out: &mut [u8], bits: usize, contents: Contents)
     put_head(out, bits, contents);
     let iid = contents.iid;
     let icc = contents.icc;
-    let extension = contents.extension;
-    let part = extension.part;
-    let body = part.body;
-    let phases = body.phases;
+    let phases = contents.extension.part.body.phases;
     put_envelopes(out, iid, icc, phases);
 }

@@ -1,0 +1,79 @@
+/* play: reads a tag image from standard input, plays through it payload by payload and prints a line of each, as the program list does. */
+#include <stdio.h>
+
+#include "oarcradler.h"
+
+enum { LONGEST_IMAGE = 65535 };
+
+/* One byte more than an image may have, so that a longer input is seen. */
+static uint8_t image[LONGEST_IMAGE + 1];
+
+/* How many lines are not 0. */
+static unsigned count_set(const int16_t *lines)
+{
+    unsigned set = 0;
+    for (int k = 0; k < OARCRADLER_LINES; k++)
+        set += lines[k] != 0;
+    return set;
+}
+
+/* An even payload is a channel stream. A handset hands its numbers to the sound chip here. */
+static void play_channel(uint32_t k, size_t size, uint32_t start, uint32_t end, uint32_t index)
+{
+    static int16_t lines[OARCRADLER_LINES];
+    static uint8_t factors[OARCRADLER_FACTORS], books[OARCRADLER_BOOKS];
+    uint8_t answer[OARCRADLER_CHANNEL];
+    uint32_t number = oarcradler_read_channel(image, size, start, end, index, lines, OARCRADLER_LINES, factors, sizeof factors, books,
+        sizeof books, answer, sizeof answer);
+    if (number != OARCRADLER_DONE) {
+        printf("%u channel refused %u\n", (unsigned)k, (unsigned)number);
+        return;
+    }
+    printf("%u channel gain %u lines %u bits %u\n", (unsigned)k, (unsigned)answer[OARCRADLER_CHANNEL_GAIN], count_set(lines),
+        (unsigned)oarcradler_word(answer + OARCRADLER_CHANNEL_BITS));
+}
+
+/* An odd payload is stereo. A refused one leaves the state out of step by itself, so it is not reported missing. */
+static void play_stereo(uint32_t k, size_t size, uint32_t start, uint32_t end, uint8_t *state)
+{
+    uint8_t answer[OARCRADLER_STEREO];
+    uint32_t number = oarcradler_read_stereo(state, OARCRADLER_STATE, image, size, start, end, answer, sizeof answer);
+    if (number != OARCRADLER_DONE) {
+        printf("%u stereo refused %u\n", (unsigned)k, (unsigned)number);
+        return;
+    }
+    printf("%u stereo envelopes %u bits %u\n", (unsigned)k, (unsigned)answer[OARCRADLER_STEREO_ENVELOPES],
+        (unsigned)oarcradler_word(answer + OARCRADLER_STEREO_BITS));
+}
+
+/* Every payload of an image whose header is sound. */
+static void play_payloads(size_t size, uint32_t count, uint32_t index)
+{
+    uint8_t state[OARCRADLER_STATE], part[OARCRADLER_PART];
+    oarcradler_fresh_state(state, sizeof state);
+    for (uint32_t k = 0; k < count; k++) {
+        if (oarcradler_find_part(image, size, k, part, sizeof part) != OARCRADLER_DONE)
+            return;
+        uint32_t start = oarcradler_word(part + OARCRADLER_PART_START), end = oarcradler_word(part + OARCRADLER_PART_END);
+        if (k % 2 == 0)
+            play_channel(k, size, start, end, index);
+        else
+            play_stereo(k, size, start, end, state);
+    }
+}
+
+/* An image whose header is unsound is refused as a whole. */
+int main(void)
+{
+    uint8_t header[OARCRADLER_HEADER];
+    size_t size = fread(image, 1, sizeof image, stdin);
+    uint32_t number = oarcradler_read_header(image, size, header, sizeof header);
+    if (number != OARCRADLER_DONE) {
+        printf("image refused %u\n", (unsigned)number);
+        return 0;
+    }
+    uint32_t count = oarcradler_word(header + OARCRADLER_HEADER_COUNT);
+    printf("payloads %u\n", (unsigned)count);
+    play_payloads(size, count, oarcradler_word(header + OARCRADLER_HEADER_INDEX));
+    return 0;
+}

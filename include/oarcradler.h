@@ -1,0 +1,153 @@
+/* Oarcradler for a program in C: a tag's channel streams and stereo payloads read into numbers, stereo payloads written.
+ *
+ * Every function takes byte buffers that the caller owns, each as a pointer and a length, and keeps nothing after the call. Buffers of one call
+ * must not overlap. It answers 0, or the number of a refusal. docs/C.md describes every byte. */
+#ifndef OARCRADLER_H
+#define OARCRADLER_H
+
+#include <stddef.h>
+#include <stdint.h>
+
+#ifdef __cplusplus
+extern "C" {
+#endif
+
+/* How much each buffer holds at least. A longer one is taken, and what stands past the layout is left alone. */
+enum oarcradler_size {
+    OARCRADLER_STATE = 146,   /* bytes of the stereo state */
+    OARCRADLER_STEREO = 582,  /* bytes of a stereo answer, and of contents to write */
+    OARCRADLER_CHANNEL = 17,  /* bytes of a channel answer */
+    OARCRADLER_LINES = 1024,  /* lines of a channel stream, an int16_t each */
+    OARCRADLER_FACTORS = 120, /* bytes of scale factors */
+    OARCRADLER_BOOKS = 120,   /* bytes of books */
+    OARCRADLER_HEADER = 8,    /* bytes of an image header's answer */
+    OARCRADLER_PART = 8,      /* bytes of a part's answer */
+    OARCRADLER_INDICES = 34,  /* indices of a record, and of a row */
+    OARCRADLER_RECORD = 35,   /* bytes of a record of the state: its mode, its indices */
+    OARCRADLER_ROW = 35,      /* bytes of a row of an envelope: its time flag, its indices */
+    OARCRADLER_ENVELOPE = 140 /* bytes of an envelope: four rows */
+};
+
+/* The numbers that come back. */
+enum oarcradler_number {
+    OARCRADLER_DONE = 0,               /* read, or written */
+    OARCRADLER_BAD_RANGE = 1,          /* range outside the buffer, or its start after its end; no such payload */
+    OARCRADLER_TOO_SHORT = 2,          /* a lent output is too short */
+    OARCRADLER_UNKNOWN_INDEX = 3,      /* sampling index not 3, 4, 6 or 7 */
+    OARCRADLER_UNSOUND_STATE = 4,      /* stereo state unsound */
+    OARCRADLER_UNSOUND_IMAGE = 5,      /* image header unsound */
+    OARCRADLER_NO_BITS = 10,           /* bits ran out */
+    OARCRADLER_NO_WORD = 11,           /* no code word fits */
+    OARCRADLER_BITS_LEFT = 12,         /* more than 7 bits left after the payload */
+    OARCRADLER_RESERVED = 13,          /* reserved bit, mode or extension id used */
+    OARCRADLER_UNUSED_TOOL = 20,       /* prediction, TNS or gain control flagged */
+    OARCRADLER_MAX_SFB = 21,           /* max_sfb above the number of bands */
+    OARCRADLER_SECTION = 22,           /* section of length 0, or past max_sfb */
+    OARCRADLER_BOOK = 23,              /* book 12, 13, 14 or 15 */
+    OARCRADLER_FACTOR = 24,            /* scale factor outside 0..255 */
+    OARCRADLER_PULSE = 25,             /* pulses with short windows, or pulse start or line too high */
+    OARCRADLER_MAGNITUDE = 26,         /* magnitude above 8191 */
+    OARCRADLER_TIME_CODING = 31,       /* time coding where the mode differs */
+    OARCRADLER_INDEX = 32,             /* index outside its range */
+    OARCRADLER_EXTENSION = 33,         /* extension too small for its contents, or a second v0 in it */
+    OARCRADLER_NO_MODE = 34,           /* phase data with no IID mode ever sent */
+    OARCRADLER_OUT_OF_STEP = 35,       /* out of step and not a restart */
+    OARCRADLER_CANNOT_BE_WRITTEN = 40  /* contents that can't be written */
+};
+
+/* Where the bytes of the stereo state stand. Indices are int8_t. */
+enum oarcradler_state {
+    OARCRADLER_STATE_IID_ON = 0,
+    OARCRADLER_STATE_ICC_ON = 1,
+    OARCRADLER_STATE_EXTENSION_ON = 2,
+    OARCRADLER_STATE_IID_MODE = 3, /* the last one sent: 0 to 5, OARCRADLER_NONE for none */
+    OARCRADLER_STATE_ICC_MODE = 4,
+    OARCRADLER_STATE_IN_STEP = 5,
+    OARCRADLER_STATE_IID = 6, /* a record: its mode, as above, and its indices */
+    OARCRADLER_STATE_ICC = 41,
+    OARCRADLER_STATE_IPD = 76,
+    OARCRADLER_STATE_OPD = 111,
+    OARCRADLER_NONE = 7 /* the mode that stands for none */
+};
+
+/* Where the bytes of a stereo answer, and of contents to write, stand. Indices are int8_t. */
+enum oarcradler_stereo {
+    OARCRADLER_STEREO_BITS = 0,   /* a word: the bits used */
+    OARCRADLER_STEREO_HEADER = 4, /* 1 where there is a header; the next five are 0 where there is none */
+    OARCRADLER_STEREO_IID_ON = 5,
+    OARCRADLER_STEREO_IID_MODE = 6,
+    OARCRADLER_STEREO_ICC_ON = 7,
+    OARCRADLER_STEREO_ICC_MODE = 8,
+    OARCRADLER_STEREO_EXTENSION_ON = 9,
+    OARCRADLER_STEREO_CLASS = 10, /* the frame class: 1 where borders are sent */
+    OARCRADLER_STEREO_ENVELOPES = 11,
+    OARCRADLER_STEREO_BORDERS = 12,    /* four of them */
+    OARCRADLER_STEREO_EXTENSION = 16,  /* 1 where there is an extension; the next five are 0 where there is none */
+    OARCRADLER_STEREO_SIZE = 17,       /* its size in bytes; at 15 the next byte is added */
+    OARCRADLER_STEREO_ESC = 18,        /* esc_count */
+    OARCRADLER_STEREO_PHASE = 19,      /* enable_ipdopd */
+    OARCRADLER_STEREO_FILL_COUNT = 20, /* how many fill bits */
+    OARCRADLER_STEREO_FILL = 21,       /* the number that they are */
+    OARCRADLER_STEREO_FIRST = 22,      /* the first of four envelopes, OARCRADLER_ENVELOPE bytes each */
+    OARCRADLER_ROW_IID = 0,            /* in an envelope, a row: 1 where coded across time, and its indices */
+    OARCRADLER_ROW_ICC = 35,
+    OARCRADLER_ROW_IPD = 70,
+    OARCRADLER_ROW_OPD = 105
+};
+
+/* Where the bytes of a channel answer stand. */
+enum oarcradler_channel {
+    OARCRADLER_CHANNEL_BITS = 0, /* a word: the bits used */
+    OARCRADLER_CHANNEL_GAIN = 4,
+    OARCRADLER_CHANNEL_SEQUENCE = 5, /* window sequence; 2 is eight short windows */
+    OARCRADLER_CHANNEL_SHAPE = 6,
+    OARCRADLER_CHANNEL_MAX_SFB = 7,
+    OARCRADLER_CHANNEL_GROUP_COUNT = 8,
+    OARCRADLER_CHANNEL_GROUPS = 9 /* the windows of each of eight groups, 0 past the last */
+};
+
+/* Where the words of an image header's answer and of a part's answer stand. */
+enum oarcradler_image {
+    OARCRADLER_HEADER_COUNT = 0, /* the payload count */
+    OARCRADLER_HEADER_INDEX = 4, /* the sampling index */
+    OARCRADLER_PART_START = 0,   /* the payload's first byte in the image */
+    OARCRADLER_PART_END = 4      /* the byte after its last */
+};
+
+/* A word of an answer: four bytes, the most significant first. */
+static inline uint32_t oarcradler_word(const uint8_t *at)
+{
+    return (uint32_t)at[0] << 24 | (uint32_t)at[1] << 16 | (uint32_t)at[2] << 8 | (uint32_t)at[3];
+}
+
+/* The state before any payload is written to a lent state. 2, or 0. */
+uint32_t oarcradler_fresh_state(uint8_t *state, size_t state_size);
+
+/* A stereo payload that never came: the state is out of step. 4, or 0. A refused payload has done so itself. */
+uint32_t oarcradler_report_missing(uint8_t *state, size_t state_size);
+
+/* The stereo payload in bytes start to end (not included) of a buffer: the state is moved on, the answer written. 1, 2, 4, with nothing
+ * touched; 10 to 35, with the state out of step and nothing else touched; or 0. */
+uint32_t oarcradler_read_stereo(uint8_t *state, size_t state_size, const uint8_t *buffer, size_t buffer_size, uint32_t start, uint32_t end,
+    uint8_t *answer, size_t answer_size);
+
+/* Contents, laid out as a stereo answer, are written as a payload: the state is moved on, the bits written are put in the contents' first
+ * word. 4, 40, 35, 2, with nothing touched; or 0. */
+uint32_t oarcradler_write_stereo(uint8_t *state, size_t state_size, uint8_t *contents, size_t contents_size, uint8_t *out, size_t out_size);
+
+/* The channel stream in bytes start to end (not included) of a buffer, for a sampling index: lines, scale factors, books and the answer are
+ * written. 1, 2, 3 or 10 to 26, with nothing touched; or 0. Lengths are counted in elements. */
+uint32_t oarcradler_read_channel(const uint8_t *buffer, size_t buffer_size, uint32_t start, uint32_t end, uint32_t index, int16_t *lines,
+    size_t line_count, uint8_t *factors, size_t factors_size, uint8_t *books, size_t books_size, uint8_t *answer, size_t answer_size);
+
+/* The header of a tag image: its payload count and sampling index are written as two words. 2, 5, 3, or 0. */
+uint32_t oarcradler_read_header(const uint8_t *image, size_t image_size, uint8_t *answer, size_t answer_size);
+
+/* The payload k of a tag image: where it starts and ends is written as two words. 2, 5, 3, 1 where there is no such payload, or 0. */
+uint32_t oarcradler_find_part(const uint8_t *image, size_t image_size, uint32_t k, uint8_t *answer, size_t answer_size);
+
+#ifdef __cplusplus
+}
+#endif
+
+#endif

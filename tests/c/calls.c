@@ -1,0 +1,122 @@
+#include "calls.h"
+
+#include "oarcradler.h"
+
+/* Whether a number is in a list that 0 ends; 0 itself is. */
+static int is_one_of(uint32_t number, const uint32_t *list)
+{
+    while (*list != 0 && *list != number)
+        list++;
+    return *list == number;
+}
+
+uint32_t call_fresh(struct lent *state)
+{
+    remember(state);
+    uint32_t number = oarcradler_fresh_state(bytes_of(state), state->size);
+    calls++;
+    expect(number == 0 || number == 2, "fresh_state: a number that it never gives");
+    expect(same_but(state, 0, number == 0 ? OARCRADLER_STATE : 0), "fresh_state: a byte was changed that is not its own");
+    return number;
+}
+
+uint32_t call_missing(struct lent *state)
+{
+    remember(state);
+    uint32_t number = oarcradler_report_missing(bytes_of(state), state->size);
+    calls++;
+    expect(number == 0 || number == 4, "report_missing: a number that it never gives");
+    if (number == 0) {
+        expect(same_but(state, 5, 6), "report_missing: a byte besides the mark was changed");
+        expect(bytes_of(state)[5] == 0, "report_missing: the mark is not out of step");
+    } else {
+        expect(same(state), "report_missing: a refusal touched the state");
+    }
+    return number;
+}
+
+uint32_t call_read_stereo(struct stereo_call *call, uint32_t start, uint32_t end)
+{
+    static const uint32_t numbers[] = { 1, 2, 4, 10, 12, 13, 31, 32, 33, 34, 35, 0 };
+    remember(&call->state), remember(&call->buffer), remember(&call->answer);
+    uint32_t number = oarcradler_read_stereo(bytes_of(&call->state), call->state.size, bytes_of(&call->buffer), call->buffer.size, start, end,
+        bytes_of(&call->answer), call->answer.size);
+    calls++;
+    expect(is_one_of(number, numbers), "read_stereo: a number that it never gives");
+    expect(same(&call->buffer), "read_stereo: the buffer was changed");
+    if (number == 0) {
+        expect(same_but(&call->state, 0, OARCRADLER_STATE), "read_stereo: a byte outside the state was changed");
+        expect(same_but(&call->answer, 0, OARCRADLER_STEREO), "read_stereo: a byte outside the answer was changed");
+        return number;
+    }
+    expect(same(&call->answer), "read_stereo: a refusal touched the answer");
+    if (number < 10) {
+        expect(same(&call->state), "read_stereo: a refused call touched the state");
+    } else {
+        expect(same_but(&call->state, 5, 6), "read_stereo: a refused payload touched more than the mark");
+        expect(bytes_of(&call->state)[5] == 0, "read_stereo: a refused payload left the state in step");
+    }
+    return number;
+}
+
+uint32_t call_write_stereo(struct write_call *call)
+{
+    static const uint32_t numbers[] = { 2, 4, 35, 40, 0 };
+    remember(&call->state), remember(&call->contents), remember(&call->out);
+    uint32_t number = oarcradler_write_stereo(bytes_of(&call->state), call->state.size, bytes_of(&call->contents), call->contents.size,
+        bytes_of(&call->out), call->out.size);
+    calls++;
+    expect(is_one_of(number, numbers), "write_stereo: a number that it never gives");
+    if (number == 0) {
+        size_t size = (oarcradler_word(bytes_of(&call->contents)) + 7) / 8;
+        expect(size <= call->out.size, "write_stereo: more bits than the output holds");
+        expect(same_but(&call->state, 0, OARCRADLER_STATE), "write_stereo: a byte outside the state was changed");
+        expect(same_but(&call->contents, 0, 4), "write_stereo: a byte of the contents besides the bit count was changed");
+        expect(same_but(&call->out, 0, size), "write_stereo: a byte past the payload was changed");
+    } else {
+        expect(same(&call->state) && same(&call->contents) && same(&call->out), "write_stereo: a refusal touched a buffer");
+    }
+    return number;
+}
+
+uint32_t call_read_channel(struct channel_call *call, uint32_t start, uint32_t end, uint32_t index)
+{
+    static const uint32_t numbers[] = { 1, 2, 3, 10, 12, 13, 20, 21, 22, 23, 24, 25, 26, 0 };
+    remember(&call->buffer), remember(&call->lines), remember(&call->factors), remember(&call->books), remember(&call->answer);
+    uint32_t number = oarcradler_read_channel(bytes_of(&call->buffer), call->buffer.size, start, end, index,
+        (int16_t *)(void *)bytes_of(&call->lines), call->lines.size / sizeof(int16_t), bytes_of(&call->factors), call->factors.size,
+        bytes_of(&call->books), call->books.size, bytes_of(&call->answer), call->answer.size);
+    int done = number == 0;
+    calls++;
+    expect(is_one_of(number, numbers), "read_channel: a number that it never gives");
+    expect(same(&call->buffer), "read_channel: the buffer was changed");
+    expect(same_but(&call->lines, 0, done ? OARCRADLER_LINES * sizeof(int16_t) : 0), "read_channel: a byte was changed that is no line");
+    expect(same_but(&call->factors, 0, done ? OARCRADLER_FACTORS : 0), "read_channel: a byte was changed that is no scale factor");
+    expect(same_but(&call->books, 0, done ? OARCRADLER_BOOKS : 0), "read_channel: a byte was changed that is no book");
+    expect(same_but(&call->answer, 0, done ? OARCRADLER_CHANNEL : 0), "read_channel: a byte was changed that is not the answer's");
+    return number;
+}
+
+uint32_t call_read_header(struct image_call *call)
+{
+    static const uint32_t numbers[] = { 2, 3, 5, 0 };
+    remember(&call->image), remember(&call->answer);
+    uint32_t number = oarcradler_read_header(bytes_of(&call->image), call->image.size, bytes_of(&call->answer), call->answer.size);
+    calls++;
+    expect(is_one_of(number, numbers), "read_header: a number that it never gives");
+    expect(same(&call->image), "read_header: the image was changed");
+    expect(same_but(&call->answer, 0, number == 0 ? OARCRADLER_HEADER : 0), "read_header: a byte was changed that is not the answer's");
+    return number;
+}
+
+uint32_t call_find_part(struct image_call *call, uint32_t k)
+{
+    static const uint32_t numbers[] = { 1, 2, 3, 5, 0 };
+    remember(&call->image), remember(&call->answer);
+    uint32_t number = oarcradler_find_part(bytes_of(&call->image), call->image.size, k, bytes_of(&call->answer), call->answer.size);
+    calls++;
+    expect(is_one_of(number, numbers), "find_part: a number that it never gives");
+    expect(same(&call->image), "find_part: the image was changed");
+    expect(same_but(&call->answer, 0, number == 0 ? OARCRADLER_PART : 0), "find_part: a byte was changed that is not the answer's");
+    return number;
+}

@@ -1,0 +1,179 @@
+/* dump: a tag image on standard input, read by the functions for C and printed in full, as the program dump does. */
+#include <stdio.h>
+
+#include "oarcradler.h"
+
+static const char *const kinds[4] = { "iid", "icc", "ipd", "opd" };
+static uint8_t image[65536];
+
+/* A word and some bytes as numbers. */
+static void print_bytes(const char *word, const uint8_t *bytes, size_t count)
+{
+    printf("%s", word);
+    for (size_t k = 0; k < count; k++)
+        printf(" %u", (unsigned)bytes[k]);
+    printf("\n");
+}
+
+/* 34 indices. */
+static void print_indices(const uint8_t *indices)
+{
+    for (int k = 0; k < OARCRADLER_INDICES; k++)
+        printf(" %d", indices[k] < 128 ? indices[k] : indices[k] - 256);
+    printf("\n");
+}
+
+/* A channel stream that was read. */
+static void print_channel(uint32_t k, const int16_t *lines, const uint8_t *factors, const uint8_t *books, const uint8_t *answer)
+{
+    size_t groups = answer[OARCRADLER_CHANNEL_GROUP_COUNT], used = groups * answer[OARCRADLER_CHANNEL_MAX_SFB];
+    unsigned set = 0;
+    for (int line = 0; line < OARCRADLER_LINES; line++)
+        set += lines[line] != 0;
+    printf("%u channel gain %u lines %u bits %u\n", (unsigned)k, (unsigned)answer[OARCRADLER_CHANNEL_GAIN], set,
+        (unsigned)oarcradler_word(answer + OARCRADLER_CHANNEL_BITS));
+    printf("  window %u shape %u max_sfb %u", (unsigned)answer[OARCRADLER_CHANNEL_SEQUENCE], (unsigned)answer[OARCRADLER_CHANNEL_SHAPE],
+        (unsigned)answer[OARCRADLER_CHANNEL_MAX_SFB]);
+    print_bytes(" groups", answer + OARCRADLER_CHANNEL_GROUPS, groups);
+    print_bytes("  books", books, used);
+    print_bytes("  factors", factors, used);
+    printf("  values");
+    for (int line = 0; line < OARCRADLER_LINES; line++)
+        if (lines[line] != 0)
+            printf(" %d:%d", line, lines[line]);
+    printf("\n");
+}
+
+/* A channel stream, read or refused. */
+static void dump_channel(uint32_t k, size_t size, uint32_t start, uint32_t end, uint32_t index)
+{
+    static int16_t lines[OARCRADLER_LINES];
+    static uint8_t factors[OARCRADLER_FACTORS], books[OARCRADLER_BOOKS], answer[OARCRADLER_CHANNEL];
+    uint32_t number = oarcradler_read_channel(image, size, start, end, index, lines, OARCRADLER_LINES, factors, sizeof factors, books,
+        sizeof books, answer, sizeof answer);
+    if (number != 0)
+        printf("%u channel refused %u\n", (unsigned)k, (unsigned)number);
+    else
+        print_channel(k, lines, factors, books, answer);
+}
+
+/* A mode, or a dash where there is none. */
+static void print_mode(const char *word, int there, uint8_t mode)
+{
+    if (there)
+        printf(" %s %u", word, (unsigned)mode);
+    else
+        printf(" %s -", word);
+}
+
+/* A stereo payload's header. */
+static void print_header(const uint8_t *answer)
+{
+    if (!answer[OARCRADLER_STEREO_HEADER]) {
+        printf("  header -\n");
+        return;
+    }
+    printf("  header");
+    print_mode("iid", answer[OARCRADLER_STEREO_IID_ON], answer[OARCRADLER_STEREO_IID_MODE]);
+    print_mode("icc", answer[OARCRADLER_STEREO_ICC_ON], answer[OARCRADLER_STEREO_ICC_MODE]);
+    printf(" ext %u\n", (unsigned)answer[OARCRADLER_STEREO_EXTENSION_ON]);
+}
+
+/* An envelope: how each kind that was sent is coded, and the indices. */
+static void print_envelope(unsigned e, const uint8_t *state, const uint8_t *answer)
+{
+    const uint8_t *rows = answer + OARCRADLER_STEREO_FIRST + OARCRADLER_ENVELOPE * e;
+    uint8_t phase = answer[OARCRADLER_STEREO_PHASE];
+    const uint8_t sent[4] = { state[OARCRADLER_STATE_IID_ON], state[OARCRADLER_STATE_ICC_ON], phase, phase };
+    printf("  envelope %u", e);
+    for (int kind = 0; kind < 4; kind++)
+        printf(" %s %s", kinds[kind], !sent[kind] ? "-" : rows[OARCRADLER_ROW * kind] ? "t" : "f");
+    printf("\n");
+    for (int kind = 0; kind < 4; kind++) {
+        printf("  %s", kinds[kind]);
+        print_indices(rows + OARCRADLER_ROW * kind + 1);
+    }
+}
+
+/* A stereo payload's extension. */
+static void print_extension(const uint8_t *answer)
+{
+    unsigned size = answer[OARCRADLER_STEREO_SIZE] + answer[OARCRADLER_STEREO_ESC], count = answer[OARCRADLER_STEREO_FILL_COUNT];
+    if (!answer[OARCRADLER_STEREO_EXTENSION]) {
+        printf("  extension -\n");
+        return;
+    }
+    printf("  extension size %u", size);
+    if (size != 0) {
+        printf(" phase %u fill %s", (unsigned)answer[OARCRADLER_STEREO_PHASE], count ? "" : "-");
+        for (unsigned bit = count; bit > 0; bit--)
+            printf("%d", answer[OARCRADLER_STEREO_FILL] >> (bit - 1) & 1);
+    }
+    printf("\n");
+}
+
+/* The stereo state. */
+static void print_state(const uint8_t *state)
+{
+    static const size_t records[4] = { OARCRADLER_STATE_IID, OARCRADLER_STATE_ICC, OARCRADLER_STATE_IPD, OARCRADLER_STATE_OPD };
+    uint8_t iid = state[OARCRADLER_STATE_IID_MODE], icc = state[OARCRADLER_STATE_ICC_MODE];
+    printf("  state");
+    print_mode("iid", iid != OARCRADLER_NONE, iid);
+    print_mode("icc", icc != OARCRADLER_NONE, icc);
+    printf(" enabled %u %u %u step %u\n", (unsigned)state[OARCRADLER_STATE_IID_ON], (unsigned)state[OARCRADLER_STATE_ICC_ON],
+        (unsigned)state[OARCRADLER_STATE_EXTENSION_ON], (unsigned)state[OARCRADLER_STATE_IN_STEP]);
+    for (int kind = 0; kind < 4; kind++) {
+        const uint8_t *held = state + records[kind];
+        printf("  record");
+        print_mode(kinds[kind], held[0] != OARCRADLER_NONE, held[0]);
+        if (held[0] != OARCRADLER_NONE)
+            print_indices(held + 1);
+        else
+            printf("\n");
+    }
+}
+
+/* A stereo payload, read or refused, and the state after it. */
+static void dump_stereo(uint32_t k, size_t size, uint32_t start, uint32_t end, uint8_t *state)
+{
+    static uint8_t answer[OARCRADLER_STEREO];
+    uint32_t number = oarcradler_read_stereo(state, OARCRADLER_STATE, image, size, start, end, answer, sizeof answer);
+    if (number != 0) {
+        printf("%u stereo refused %u\n", (unsigned)k, (unsigned)number);
+    } else {
+        unsigned count = answer[OARCRADLER_STEREO_ENVELOPES], class = answer[OARCRADLER_STEREO_CLASS];
+        printf("%u stereo envelopes %u bits %u\n", (unsigned)k, count, (unsigned)oarcradler_word(answer));
+        print_header(answer);
+        printf("  class %u", class);
+        print_bytes(" borders", answer + OARCRADLER_STEREO_BORDERS, class ? count : 0);
+        for (unsigned e = 0; e < count; e++)
+            print_envelope(e, state, answer);
+        print_extension(answer);
+    }
+    print_state(state);
+}
+
+/* An image, payload by payload. */
+int main(void)
+{
+    uint8_t header[OARCRADLER_HEADER], part[OARCRADLER_PART], state[OARCRADLER_STATE];
+    size_t size = fread(image, 1, sizeof image, stdin);
+    uint32_t number = oarcradler_read_header(image, size, header, sizeof header);
+    if (number != 0) {
+        printf("image refused %u\n", (unsigned)number);
+        return 0;
+    }
+    uint32_t count = oarcradler_word(header + OARCRADLER_HEADER_COUNT), index = oarcradler_word(header + OARCRADLER_HEADER_INDEX);
+    printf("payloads %u\n", (unsigned)count);
+    if (oarcradler_fresh_state(state, sizeof state) != 0)
+        return 1;
+    for (uint32_t k = 0; k < count; k++) {
+        if (oarcradler_find_part(image, size, k, part, sizeof part) != 0)
+            return 1;
+        if (k % 2 == 0)
+            dump_channel(k, size, oarcradler_word(part), oarcradler_word(part + 4), index);
+        else
+            dump_stereo(k, size, oarcradler_word(part), oarcradler_word(part + 4), state);
+    }
+    return 0;
+}

@@ -1,0 +1,70 @@
+#include "lent.h"
+
+#include <stdio.h>
+#include <string.h>
+
+enum { MOST_SAID = 20 };
+
+unsigned long calls, written_back, image_number, payload_number;
+static unsigned long fault_count;
+
+uint8_t *bytes_of(struct lent *lent)
+{
+    return (uint8_t *)lent->cells + GUARD;
+}
+
+uint8_t *lend(struct lent *lent, size_t size, unsigned seed)
+{
+    uint8_t *all = (uint8_t *)lent->cells;
+    expect(size <= MOST_LENT, "a test lends too long a buffer");
+    lent->size = size;
+    for (size_t k = 0; k < GUARD + size + GUARD; k++) {
+        seed = seed * 1103515245u + 12345u;
+        all[k] = (uint8_t)(seed >> 16);
+    }
+    return bytes_of(lent);
+}
+
+uint8_t *lend_bytes(struct lent *lent, size_t size, unsigned seed, const uint8_t *bytes, size_t count)
+{
+    lend(lent, size, seed);
+    memcpy(bytes_of(lent), bytes, count < size ? count : size);
+    return bytes_of(lent);
+}
+
+void remember(struct lent *lent)
+{
+    memcpy(lent->was, lent->cells, GUARD + lent->size + GUARD);
+}
+
+int same_but(struct lent *lent, size_t from, size_t to)
+{
+    const uint8_t *all = (const uint8_t *)lent->cells;
+    size_t after = GUARD + to, whole = GUARD + lent->size + GUARD;
+    return memcmp(all, lent->was, GUARD + from) == 0 && memcmp(all + after, lent->was + after, whole - after) == 0;
+}
+
+int same(struct lent *lent)
+{
+    return same_but(lent, 0, 0);
+}
+
+void expect(int good, const char *what)
+{
+    if (good)
+        return;
+    if (fault_count++ < MOST_SAID)
+        printf("image %lu payload %lu: %s\n", image_number, payload_number, what);
+}
+
+void expect_number(uint32_t said, uint32_t wanted, const char *what)
+{
+    if (said != wanted && fault_count < MOST_SAID)
+        printf("%u wanted, %u said: ", (unsigned)wanted, (unsigned)said);
+    expect(said == wanted, what);
+}
+
+unsigned long faults(void)
+{
+    return fault_count;
+}
