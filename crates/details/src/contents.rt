@@ -8,7 +8,6 @@ use stereo::Extension;
 use stereo::Frame;
 use stereo::Header;
 use stereo::State;
-use stereo::readings;
 
 // The header.
 fn print_header(h: Header) {

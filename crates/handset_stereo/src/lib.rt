@@ -6,7 +6,6 @@ ghost use Rattle.handset_stereo.specs.ReadStereo.{stereoJudged, stereoNu
 use layout::answers;
 use layout::calls::judge;
 use layout::states;
-use stereo::readings;
 
 // The state before any payload is written to the front of a lent state.
 #[no_mangle]

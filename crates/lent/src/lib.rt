@@ -22,7 +22,7 @@ struct Apart {
 fn read_apart(state: State, bytes: &[u8], start: usize, end: usize) -> Apart
     ensures { λ r. ⌜ r ≡ apartOf (readFrom state (now (bytes .entry)) start end) ⌝ }
 {
-    let r = stereo::readings::read(state, bytes, start, end);
+    let r = readings::read(state, bytes, start, end);
     let contents = r.contents;
     let next = r.state;
     let answer = Answer {
@@ -49,7 +49,7 @@ pub fn read(state: &mut State, bytes: &[u8], start: usize, end: usize) -> Answer
 pub fn missing(state: &mut State) -> u8
     ensures { λ r. ⌜ (r ≡ missing (now (state .entry)) .number) × (now (state .exit) ≡ missing (now (state .entry)) .state) ⌝ }
 {
-    let r = stereo::readings::missing(*state);
+    let r = readings::missing(*state);
     *state = r.state;
     r.number
 }

@@ -9,7 +9,6 @@ ghost use Rattle.layout.specs.Bytes.{over};
 ghost use Rattle.outline.specs.Answers.{channelIn, stereoIn, stateFrom};
 ghost use Rattle.outline.specs.Outline.{sounding, channelRow, stereoRow, rowFrom, rowsOf, outlineOf, rowsAfter};
 use stereo::State;
-use stereo::readings;
 use stereo::states;
 use tag::Header;
 

@@ -9,5 +9,4 @@ pub mod PayloadLaws
 pub mod PayloadNear
 pub mod BytesLaws
 pub mod All
-pub mod Examples
 pub mod StereoLaws

@@ -7,7 +7,6 @@ pub mod extensions;
 pub mod frames;
 pub mod headers;
 pub mod payloads;
-pub mod readings;
 pub mod states;
 pub mod turns;
 

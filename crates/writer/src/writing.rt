@@ -19,7 +19,6 @@ use bits::write::copy_out;
 use stereo::Contents;
 use stereo::State;
 use stereo::payloads;
-use stereo::readings;
 use stereo::states;
 use stereo::turns;
 

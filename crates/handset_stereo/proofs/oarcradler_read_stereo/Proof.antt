@@ -15,7 +15,7 @@ use Rattle.handset_stereo.proofs.judge_stereo.Reads as judge-stereo-rea
 use Rattle.layout.proofs.answers.put_answer.Reads as put-answer-reads
 use Rattle.layout.proofs.states.put_state.Reads as put-state-reads
 use Rattle.layout.proofs.states.state_at.Reads as state-at-reads
-use Rattle.stereo.proofs.readings.read.Reads as read-reads
+use Rattle.readings.proofs.read.Reads as read-reads
 
 judge-stereo-requires : tie.Need-judge-stereo-requires
 judge-stereo-requires c κs = search needs

@@ -43,10 +43,10 @@ use Rattle.stereo.proofs.State as S
 use Rattle.stereo.proofs.State.Laws as S′
 use Rattle.stereo.proofs.Report as R
 use Rattle.stereo.proofs.Report.Laws as R′
-use Rattle.stereo.proofs.readings.missing as step
-use Rattle.stereo.proofs.readings.missing.Symbol as step-def
-use Rattle.stereo.proofs.readings.missing.Symbol.{name as #stereo·readings·missing}
-use Rattle.stereo.proofs.readings.missing.Met as step-thm
+use Rattle.readings.proofs.missing as step
+use Rattle.readings.proofs.missing.Symbol as step-def
+use Rattle.readings.proofs.missing.Symbol.{name as #readings·missing}
+use Rattle.readings.proofs.missing.Met as step-thm
 use Rattle.lent.proofs.missing.Key.{name as #lent·missing}
 use Rattle.lent.proofs.missing as lent
 use Rattle.lent.proofs.missing.Statement as stated
@@ -101,7 +101,7 @@ module _ {M : Type 1} (𝓤 : URA M) (H : Heap 𝓤) (A : Atoms 𝓤) (W : Given
   said : (r : Report) → ent 𝓤 (ensured 𝓤 H A step.ended (step.clauses 𝓤 H A at-mem run) tt (h, tt) tt r) (fact 𝓤 (r ≡ missing h))
   said r = exE 𝓤 _ (λ ws. snd∗ 𝓤 (sem 𝓤 H A (lasts step.ended tt (h, tt) ws)) (fact 𝓤 (r ≡ missing h)))
 
-  module _ (C : Calls 𝓤 H) (Λ : Loops 𝓤 H) (fm : FmC 𝓤 H (W .laws) C) (known : Triple 𝓤 (C #stereo·readings·missing) (Step 𝓤 H A at-mem run)) where
+  module _ (C : Calls 𝓤 H) (Λ : Loops 𝓤 H) (fm : FmC 𝓤 H (W .laws) C) (known : Triple 𝓤 (C #readings·missing) (Step 𝓤 H A at-mem run)) where
     walk : ent 𝓤 (onEntry 𝓤 H A lent.signature (κ, tt) (q, tt) x at) (WpFn 𝓤 H C Λ code.function (vptr b o ∷ []) Post)
     walk =
         qed W ((‵ (flft κ q) ⊛ ‵ ftrue) ∷ ‵ (owns (MutRef (named 0) κ S.the-row ∷ []) x at) ∷ []) ∵ split ! $ move ! (2 ∷ []) $ fsplit ! $ fsplit3 ! $ drop ! $ move ! (0 ∷ 1 ∷ 3 ∷ []) $
@@ -128,13 +128,13 @@ module _ {M : Type 1} (𝓤 : URA M) (H : Heap 𝓤) (A : Atoms 𝓤) (W : Given
         keep ! (0 ∷ 1 ∷ 2 ∷ []) $ by ! (exits r (number-fits r v is) e))))))))))
 
 module _ {M : Type 1} (𝓤 : URA M) (H : Heap 𝓤) (A : Atoms 𝓤) (W : Given 𝓤 H A) (at-mem : Memory → SProp 𝓤) (run : Routine → Fun 𝓤) where
-  missing-walks : (C : Calls 𝓤 H) (Λ : Loops 𝓤 H) → FmC 𝓤 H (W .laws) C → Triple 𝓤 (C #stereo·readings·missing) (Step 𝓤 H A at-mem run)
+  missing-walks : (C : Calls 𝓤 H) (Λ : Loops 𝓤 H) → FmC 𝓤 H (W .laws) C → Triple 𝓤 (C #readings·missing) (Step 𝓤 H A at-mem run)
       → Walks 𝓤 H A lent.ended stayed (WpFn 𝓤 H C Λ code.function) (lent.clauses 𝓤 H A at-mem run)
   missing-walks C Λ fm known = walked 𝓤 H A lent.ended stayed (lent.clauses 𝓤 H A at-mem run) (WpFn 𝓤 H C Λ code.function) (λ κs. (ptr-vals, tt)) (λ κs. (mut-tells (named 0) (κs .0) S.the-row, tt))
       (λ κs qs bounds a _ _. via 𝓤 _ (fst∗ 𝓤 _ (emp 𝓤)) (walk 𝓤 H A W at-mem run (κs .0) (qs .0) (a .0 .ptr .0) (a .0 .ptr .1) (a .0 .name) (a .0 .now) C Λ fm known))
 
 missing-meets : {M : Type 1} (𝓤 : URA M) (H : Heap 𝓤) (A : Atoms 𝓤) (W : Given 𝓤 H A) (at-mem : Memory → SProp 𝓤) (run : Routine → Fun 𝓤) (𝓣 : Tables 𝓤 H)
-    → Triple 𝓤 (𝓣 .C #stereo·readings·missing) (Step 𝓤 H A at-mem run) → Meets 𝓤 H A lent.signature (WpFn 𝓤 H (𝓣 .C) (𝓣 .Λ) code.function) (lent.spec 𝓤 H A at-mem run)
+    → Triple 𝓤 (𝓣 .C #readings·missing) (Step 𝓤 H A at-mem run) → Meets 𝓤 H A lent.signature (WpFn 𝓤 H (𝓣 .C) (𝓣 .Λ) code.function) (lent.spec 𝓤 H A at-mem run)
 missing-meets 𝓤 H A W at-mem run 𝓣 known = walk-meets 𝓤 H A lent.ended stayed W (goes-ref 𝓤 H A W 1 0 tt (plain (λ _. S.the-row)), tt) (lent.clauses 𝓤 H A at-mem run) (WpFn 𝓤 H (𝓣 .C) (𝓣 .Λ) code.function) (WpFn-mono 𝓤 H (W .laws) 𝓣 code.function)
     (missing-walks 𝓤 H A W at-mem run (𝓣 .C) (𝓣 .Λ) (fmOf 𝓤 H (W .laws) 𝓣) known)
 
@@ -144,4 +144,4 @@ missing-spec 𝓤 H 𝓜 𝓖 𝓡 =
     entered 𝓤 H (tripleOf 𝓤 H (𝓖 .A) lent.signature (lent.spec 𝓤 H (𝓖 .A) (𝓜 .mem) (𝓡 .run)))
     (tables 𝓤 H 𝓜 𝓡 code.env .C) (tables 𝓤 H 𝓜 𝓡 code.env .Λ) #lent·missing code.function (code.unfolded 𝓤 H 𝓜 𝓡)
     (missing-meets 𝓤 H (𝓖 .A) (givenOf 𝓤 H 𝓜 𝓖) (𝓜 .mem) (𝓡 .run) (tablesOf 𝓤 H 𝓜 (tables 𝓤 H 𝓜 𝓡 code.env))
-    (cited 𝓤 H (Step 𝓤 H (𝓖 .A) (𝓜 .mem) (𝓡 .run)) 𝓜 𝓡 code.env #stereo·readings·missing step-def.routine code.calls-stereo·readings·missing (step-thm.met 𝓤 H 𝓜 𝓖 𝓡)))
+    (cited 𝓤 H (Step 𝓤 H (𝓖 .A) (𝓜 .mem) (𝓡 .run)) 𝓜 𝓡 code.env #readings·missing step-def.routine code.calls-readings·missing (step-thm.met 𝓤 H 𝓜 𝓖 𝓡)))

@@ -5,7 +5,7 @@ use Rattle.lent.proofs.read_apart.Statement.{statement}
 use Rattle.lent.proofs.read_apart.Tie as tie
 use Rattle.lent.proofs.read_apart.Reads as reads
 use Rattle.lent.proofs.read_apart.Lts as lts
-use Rattle.stereo.proofs.readings.read.Reads as read-reads
+use Rattle.readings.proofs.read.Reads as read-reads
 
 read-requires : tie.Need-read-requires
 read-requires c κs = search needs

@@ -5,7 +5,7 @@ use Rattle.outline.proofs.stereo_turn.Tie as tie
 use Rattle.outline.proofs.stereo_turn.Reads as reads
 use Rattle.outline.proofs.stereo_turn.Lts as lts
 use Rattle.outline.proofs.wide.Reads as wide-reads
-use Rattle.stereo.proofs.readings.read.Reads as read-reads
+use Rattle.readings.proofs.read.Reads as read-reads
 
 read-requires : tie.Need-read-requires
 read-requires c κs = search needs

@@ -22,7 +22,7 @@ returns : tie.Need-returns
 unfolding answerBytes
 returns c =
     let rest = c .before .before in
-    let head = rest .before .before .before .before .before .before .before .before .before .before in
+    let head = rest .before .before .before .before .before .before .before in
     let s = head .before .before .before .args .out .now in
     put-next s 0 _ 22 _ 560 (head .put-head .ensures) (rest .put-envelopes .ensures) (omega arith) .0
 

@@ -15,8 +15,8 @@ use Rattle.writer.proofs.writing.write.Tie as tie
 use Rattle.writer.proofs.writing.write.Reads as reads
 use Rattle.writer.proofs.writing.write.Lts as lts
 use Rattle.bits.proofs.write.copy_out.Reads as copy-out-reads
-use Rattle.stereo.proofs.readings.is_accepted.Reads as is-accepted-reads
-use Rattle.stereo.proofs.readings.read_from.Reads as read-from-reads
+use Rattle.readings.proofs.is_accepted.Reads as is-accepted-reads
+use Rattle.readings.proofs.read_from.Reads as read-from-reads
 use Rattle.stereo.proofs.states.is_sound.Reads as is-sound-reads
 use Rattle.stereo.proofs.turns.carried.Reads as carried-reads
 use Rattle.writer.proofs.writing.bytes_for.Reads as bytes-for-reads

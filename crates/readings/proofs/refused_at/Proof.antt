@@ -1,11 +1,11 @@
 use mathlib.Core.Path.{_∙_}
 use borrow.Author.Needs.{needs}
-use Rattle.stereo.proofs.readings.refused_at.Statement.{statement}
-use Rattle.stereo.proofs.readings.refused_at.Tie as tie
-use Rattle.stereo.proofs.readings.refused_at.Reads as reads
-use Rattle.stereo.proofs.readings.refused_at.Lts as lts
-use Rattle.stereo.proofs.readings.refused.Reads as refused-reads
+use Rattle.readings.proofs.refused_at.Statement.{statement}
+use Rattle.readings.proofs.refused_at.Tie as tie
+use Rattle.readings.proofs.refused_at.Reads as reads
+use Rattle.readings.proofs.refused_at.Lts as lts
+use Rattle.readings.proofs.refused.Reads as refused-reads
 use Rattle.stereo.proofs.states.lost.Reads as lost-reads
 
 lost-requires : tie.Need-lost-requires
 lost-requires c κs = search needs

@@ -1,15 +1,15 @@
 -- Each `return` shows the tests of `readFrom` up to the one that failed; the part of the buffer is the range.
 use mathlib.Core.Path.{sym, _∙_}
 use borrow.Author.Tests.{le-leb, lt-leb, not-true, not-false}
 use Rattle.stereo.specs.Stereo.{readFrom}
 use borrow.Author.Needs.{needs}
-use Rattle.stereo.proofs.readings.read.Statement.{statement}
-use Rattle.stereo.proofs.readings.read.Tie as tie
-use Rattle.stereo.proofs.readings.read.Reads as reads
-use Rattle.stereo.proofs.readings.read.Lts as lts
-use Rattle.stereo.proofs.readings.read_bytes.Reads as read-bytes-reads
-use Rattle.stereo.proofs.readings.refused.Reads as refused-reads
+use Rattle.readings.proofs.read.Statement.{statement}
+use Rattle.readings.proofs.read.Tie as tie
+use Rattle.readings.proofs.read.Reads as reads
+use Rattle.readings.proofs.read.Lts as lts
+use Rattle.readings.proofs.read_bytes.Reads as read-bytes-reads
+use Rattle.readings.proofs.refused.Reads as refused-reads
 use Rattle.stereo.proofs.states.is_sound.Reads as is-sound-reads
 
 refused-requires : tie.Need-refused-requires
 refused-requires c κs = search needs

@@ -1,16 +1,16 @@
 -- 35 where contents are not accepted; else the state after them is carried from the state that they were read from.
 use borrow.Author.Tests.{not-true, not-false}
 use mathlib.Core.Path.{sym, _∙_}
 use Rattle.stereo.specs.Stereo.{taken}
 use borrow.Author.Needs.{needs}
-use Rattle.stereo.proofs.readings.judged.Statement.{statement}
-use Rattle.stereo.proofs.readings.judged.Tie as tie
-use Rattle.stereo.proofs.readings.judged.Reads as reads
-use Rattle.stereo.proofs.readings.judged.Lts as lts
-use Rattle.stereo.proofs.readings.is_accepted.Reads as is-accepted-reads
-use Rattle.stereo.proofs.readings.read_from.Reads as read-from-reads
-use Rattle.stereo.proofs.readings.refused_at.Reads as refused-at-reads
+use Rattle.readings.proofs.judged.Statement.{statement}
+use Rattle.readings.proofs.judged.Tie as tie
+use Rattle.readings.proofs.judged.Reads as reads
+use Rattle.readings.proofs.judged.Lts as lts
+use Rattle.readings.proofs.is_accepted.Reads as is-accepted-reads
+use Rattle.readings.proofs.read_from.Reads as read-from-reads
+use Rattle.readings.proofs.refused_at.Reads as refused-at-reads
 use Rattle.stereo.proofs.turns.carried.Reads as carried-reads
 
 is-accepted-requires : tie.Need-is-accepted-requires
 is-accepted-requires c κs = search needs

@@ -1,13 +1,13 @@
 use borrow.Author.Tests.{not-true, not-false}
 use mathlib.Core.Path.{sym, _∙_}
 use Rattle.stereo.specs.Stereo.{missing}
 use borrow.Author.Needs.{needs}
-use Rattle.stereo.proofs.readings.missing.Statement.{statement}
-use Rattle.stereo.proofs.readings.missing.Tie as tie
-use Rattle.stereo.proofs.readings.missing.Reads as reads
-use Rattle.stereo.proofs.readings.missing.Lts as lts
+use Rattle.readings.proofs.missing.Statement.{statement}
+use Rattle.readings.proofs.missing.Tie as tie
+use Rattle.readings.proofs.missing.Reads as reads
+use Rattle.readings.proofs.missing.Lts as lts
 use Rattle.stereo.proofs.states.is_sound.Reads as is-sound-reads
 use Rattle.stereo.proofs.states.lost.Reads as lost-reads
 
 is-sound-requires : tie.Need-is-sound-requires
 is-sound-requires c κs = search needs

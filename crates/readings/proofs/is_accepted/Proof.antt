@@ -1,10 +1,10 @@
 use mathlib.Core.Path.{_∙_}
 use borrow.Author.Needs.{needs}
-use Rattle.stereo.proofs.readings.is_accepted.Statement.{statement}
-use Rattle.stereo.proofs.readings.is_accepted.Tie as tie
-use Rattle.stereo.proofs.readings.is_accepted.Reads as reads
-use Rattle.stereo.proofs.readings.is_accepted.Lts as lts
+use Rattle.readings.proofs.is_accepted.Statement.{statement}
+use Rattle.readings.proofs.is_accepted.Tie as tie
+use Rattle.readings.proofs.is_accepted.Reads as reads
+use Rattle.readings.proofs.is_accepted.Lts as lts
 use Rattle.stereo.proofs.turns.is_restart.Reads as is-restart-reads
 
 returns : tie.Need-returns
 returns c = search needs

@@ -2,17 +2,17 @@
 ghost use mathlib.Core.Path.{_≡_};
 ghost use mathlib.Core.Bool.{_||_};
 ghost use Prim.Native.Nat.{min};
 ghost use Rattle.stereo.specs.State.{lost};
 ghost use Rattle.stereo.specs.Stereo.{from, refusal, restart, taken, readBytes, readFrom, missing};
-use crate::Contents;
-use crate::Reading;
-use crate::Report;
-use crate::State;
-use crate::extensions;
-use crate::payloads;
-use crate::states;
-use crate::turns;
 use bits::Ended;
+use stereo::Contents;
+use stereo::Reading;
+use stereo::Report;
+use stereo::State;
+use stereo::extensions;
+use stereo::payloads;
+use stereo::states;
+use stereo::turns;
 
 // A refusal: every other number is 0.
 fn refused(number: u8, state: State) -> Reading

@@ -1,18 +1,18 @@
 -- No payload uses more than 8,192 bits, so looking at 1,025 bytes answers what looking at all of them would (`whole-near`).
 use Rattle.bits.proofs.Taken.{ended-is}
 use mathlib.Core.Path.{_∙_}
 use Rattle.stereo.proofs.BytesLaws.{bytes-left, bytes-got, bytes-refused}
 use borrow.Author.Needs.{needs}
-use Rattle.stereo.proofs.readings.read_bytes.Statement.{statement}
-use Rattle.stereo.proofs.readings.read_bytes.Tie as tie
-use Rattle.stereo.proofs.readings.read_bytes.Reads as reads
-use Rattle.stereo.proofs.readings.read_bytes.Lts as lts
+use Rattle.readings.proofs.read_bytes.Statement.{statement}
+use Rattle.readings.proofs.read_bytes.Tie as tie
+use Rattle.readings.proofs.read_bytes.Reads as reads
+use Rattle.readings.proofs.read_bytes.Lts as lts
 use Rattle.stereo.proofs.extensions.remaining.Reads as remaining-reads
 use Rattle.stereo.proofs.payloads.read_payload.Reads as read-payload-reads
-use Rattle.stereo.proofs.readings.judged.Reads as judged-reads
-use Rattle.stereo.proofs.readings.looked_at.Reads as looked-at-reads
-use Rattle.stereo.proofs.readings.read_from.Reads as read-from-reads
-use Rattle.stereo.proofs.readings.refused_at.Reads as refused-at-reads
+use Rattle.readings.proofs.judged.Reads as judged-reads
+use Rattle.readings.proofs.looked_at.Reads as looked-at-reads
+use Rattle.readings.proofs.read_from.Reads as read-from-reads
+use Rattle.readings.proofs.refused_at.Reads as refused-at-reads
 use Rattle.tables.proofs.codes.Reads as codes-reads
 use Rattle.tables.proofs.lens.Reads as lens-reads
 
