@@ -5,6 +5,7 @@ use mathlib.Core.Bool.{Bool, true, _&&_, _||_}
 use lib.Dec.{leb, ltb, eqb}
 use lib.ListN.{length, getD}
 use Rattle.bits.specs.Reader.{pick}
+use Rattle.bits.specs.Payload.{range}
 use Rattle.tag.specs.declared.Header.{Header}
 use Rattle.tag.specs.declared.Part.{Part}
 
@@ -60,3 +61,7 @@ partIn h s k =
 
 unfoldable pub partOf : List ℕ → ℕ → Part
 partOf s k = partIn (headerOf s) s k
+
+-- its bytes
+abbrev pub bytesOf : List ℕ → ℕ → List ℕ
+bytesOf s k = range s (offsetOf s k) (offsetOf s (k + 1))

@@ -32,6 +32,9 @@ returns-2 c =
     let no = ne-eqb _ 0 (rw (r .ensures) at (c .before .if2 .taken)) in
     (rw room (ap (λ (z : _). z .number) (r .ensures)), rw (room, no))
 
+cast-put-words : tie.Need-cast-put-words
+cast-put-words c = search needs
+
 put-words-requires : tie.Need-put-words-requires
 put-words-requires c κs = search needs
 
@@ -41,10 +44,10 @@ same-length c = search needs
 returns-3 : tie.Need-returns-3
 unfolding imageNumber imageAnswerAfter
 returns-3 c =
-    let r = c .before .before .before .before .before .before .read-header in
-    let a = c .before .before .before .before .before .before .before .before .before .before .args in
+    let r = c .before .before .before .before .before .before .before .read-header in
+    let a = c .before .before .before .before .before .before .before .before .before .before .before .args in
     let room = le-leb 8 (length (a .answer .now)) (omega arith) in
-    let zero = rw (r .ensures) at (c .before .before .before .before .if2 .left) in
+    let zero = rw (r .ensures) at (c .before .before .before .before .before .if2 .left) in
     let yes = eq-eqb _ 0 zero in
     (rw room (sym zero), rw (room, yes) (c .before .before .put-words .ensures ∙ rw (r .ensures)))
 
@@ -56,6 +59,7 @@ oarcradler-read-header-spec =
     read-header-requires
     cast-result
     returns-2
+    cast-put-words
     put-words-requires
     same-length
     returns-3)
