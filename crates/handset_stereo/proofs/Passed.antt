@@ -10,7 +10,7 @@ use lib.Dec.{eqb}
 use Rattle.bits.specs.Reader.{pick}
 use Rattle.layout.specs.StateBytes.{soundBytes}
 use Rattle.layout.specs.Calls.{judged}
-use Rattle.layout.proofs.CallLaws.{judged-room}
+use Rattle.layout.proofs.CallLaws.{judged-room, judged-range}
 use Rattle.handset_stereo.specs.ReadStereo.{stereoJudged}
 
 -- a second test after a first refusal's number
@@ -21,8 +21,9 @@ after (suc j) b e =
     let none : suc j ≡ 0 = rw (ne-eqb (suc j) 0 (λ z. absurd (omega arith))) at e in
     absurd (omega arith)
 
-pub stereo-passed : (s : List ℕ) (size start end room : ℕ) → stereoJudged s size start end room ≡ 0 → (582 ≤ room) × (soundBytes s ≡ true)
+pub stereo-passed : (s : List ℕ) (size start end room : ℕ) → stereoJudged s size start end room ≡ 0 → (582 ≤ room) × (soundBytes s ≡ true) × (start ≤ end) × (end ≤ size)
 unfolding stereoJudged
 stereo-passed s size start end room e =
     let p = after (judged size start end 582 room) (soundBytes s) e in
-    (judged-room size start end 582 room (p .0), p .1)
+    let r = judged-range size start end 582 room (p .0) in
+    (judged-room size start end 582 room (p .0), p .1, r .0, r .1)

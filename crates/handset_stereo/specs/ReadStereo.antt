@@ -4,7 +4,8 @@ use mathlib.Core.List.{List}
 use lib.Dec.{eqb}
 use lib.ListN.{length}
 use Rattle.bits.specs.Reader.{pick}
-use Rattle.stereo.specs.Stereo.{readFrom}
+use Rattle.bits.specs.Payload.{range}
+use Rattle.stereo.specs.Stereo.{readBytes}
 use Rattle.stereo.specs.declared.Reading.{Reading}
 use Rattle.layout.specs.Bytes.{over}
 use Rattle.layout.specs.StateBytes.{stateBytes, stateAt, soundBytes}
@@ -19,7 +20,7 @@ stereoJudged s size start end room =
 
 -- the reader's own reading
 abbrev pub stereoReading : List ℕ → List ℕ → ℕ → ℕ → Reading
-stereoReading s buf start end = readFrom (stateAt s) buf start end
+stereoReading s buf start end = readBytes (stateAt s) (range buf start end)
 
 -- the number that comes back
 unfoldable pub stereoNumber : List ℕ → List ℕ → ℕ → ℕ → ℕ → ℕ

@@ -65,7 +65,7 @@ pub extern "C" fn oarcradler_read_stereo(
         return number;
     }
     let before = states::state_at(state);
-    let r = readings::read(before, buf, first, last);
+    let r = readings::read_bytes(before, &buf[first..last]);
     if r.number != 0 {
         state[5] = 0;
         return r.number as u32;

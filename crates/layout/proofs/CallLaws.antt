@@ -24,6 +24,11 @@ passed false d m n e = absurd (omega arith)
 pub judged-room : (size start end need room : ℕ) → judged size start end need room ≡ 0 → need ≤ room
 judged-room size start end need room e = leb-true need room (passed (inBuffer start end size) (leb need room) 1 0 e .1)
 
+pub judged-range : (size start end need room : ℕ) → judged size start end need room ≡ 0 → (start ≤ end) × (end ≤ size)
+judged-range size start end need room e =
+    let p = and-both (leb start end) (leb end size) (passed (inBuffer start end size) (leb need room) 1 0 e .0) in
+    (leb-true start end (p .0), leb-true end size (p .1))
+
 -- bytes that stand for a sound state are all there
 pub sound-long : (s : List ℕ) → soundBytes s ≡ true → 146 ≤ length s
 unfolding soundBytes

@@ -1,9 +1,10 @@
 // A payload's contents and the bits that it used as bytes.
 ghost use mathlib.Core.Path.{_≡_};
+ghost use mathlib.Core.List.{[], _∷_};
 ghost use Prim.Native.Nat.{_+_, _≤_};
 ghost use lib.ListN.{length};
-ghost use Rattle.layout.specs.Bytes.{over};
-ghost use Rattle.layout.specs.ContentsBytes.{headerBytes, frameBytes, extensionBytes, answerHead, rowBytes, envelopeBytes, envelopesBytes, answerBytes, rowAt, rowsAt, phasesAt, allPhasesAt, headerAt, frameAt, extensionAt, contentsAt};
+ghost use Rattle.layout.specs.Bytes.{byteOf, over};
+ghost use Rattle.layout.specs.ContentsBytes.{headerBytes, frameBytes, answerHead, envelopeBytes, envelopesBytes, answerBytes, rowAt, rowsAt, phasesAt, allPhasesAt, headerAt, frameAt, extensionAt, contentsAt};
 use crate::bytes;
 use differences::Row;
 use stereo::Body;
@@ -165,16 +166,16 @@ fn frame_bytes(frame: Frame) -> [u8; 6]
 }
 
 // The extension's fields and fill bits as bytes.
-fn extension_bytes(extension: Extension) -> [u8; 6]
-    ensures { λ r. ⌜ r ≡ extensionBytes extension ⌝ }
+fn extension_bytes(there: u32, size: u32, esc: u32, phase: u32, count: usize, value: u32) -> [u8; 6]
+    ensures { λ r. ⌜ r ≡ byteOf there ∷ byteOf size ∷ byteOf esc ∷ byteOf phase ∷ byteOf count ∷ byteOf value ∷ [] ⌝ }
 {
     [
-        bytes::byte_of(extension.there),
-        bytes::byte_of(extension.size),
-        bytes::byte_of(extension.esc),
-        bytes::byte_of(extension.part.body.phase),
-        bytes::low_byte(extension.part.count),
-        bytes::byte_of(extension.part.value),
+        bytes::byte_of(there),
+        bytes::byte_of(size),
+        bytes::byte_of(esc),
+        bytes::byte_of(phase),
+        bytes::low_byte(count),
+        bytes::byte_of(value),
     ]
 }
 
@@ -189,17 +190,15 @@ fn put_head(out: &mut [u8], bits: usize, contents: Contents)
     bytes::put(out, 4, &header);
     let frame = frame_bytes(contents.frame);
     bytes::put(out, 10, &frame);
-    let extension = extension_bytes(contents.extension);
+    let extension = extension_bytes(
+        contents.extension.there,
+        contents.extension.size,
+        contents.extension.esc,
+        contents.extension.part.body.phase,
+        contents.extension.part.count,
+        contents.extension.part.value,
+    );
     bytes::put(out, 16, &extension);
-}
-
-// A row is put at a place.
-fn put_row(out: &mut [u8], at: usize, row: Row)
-    requires { ⌜ at + 35 ≤ length (now out) ⌝ }
-    ensures { λ _. ⌜ (now (out .exit) ≡ over (now (out .entry)) at (rowBytes row)) × (length (rowBytes row) ≡ 35) ⌝ }
-{
-    let indices = row.indices;
-    bytes::put_numbered(out, at, row.time, indices);
 }
 
 // An envelope is put at a place.
@@ -207,12 +206,14 @@ fn put_envelope(out: &mut [u8], at: usize, iid: Row, icc: Row, phases: Phases)
     requires { ⌜ at + 140 ≤ length (now out) ⌝ }
     ensures { λ _. ⌜ (now (out .exit) ≡ over (now (out .entry)) at (envelopeBytes iid icc phases)) × (length (envelopeBytes iid icc phases) ≡ 140) ⌝ }
 {
-    put_row(out, at, iid);
-    put_row(out, at + 35, icc);
-    let ipd = phases.ipd;
-    put_row(out, at + 70, ipd);
-    let opd = phases.opd;
-    put_row(out, at + 105, opd);
+    let levels = iid.indices;
+    bytes::put_numbered(out, at, iid.time, levels);
+    let coherences = icc.indices;
+    bytes::put_numbered(out, at + 35, icc.time, coherences);
+    let ipd = phases.ipd.indices;
+    bytes::put_numbered(out, at + 70, phases.ipd.time, ipd);
+    let opd = phases.opd.indices;
+    bytes::put_numbered(out, at + 105, phases.opd.time, opd);
 }
 
 // The four envelopes are put where they stand.

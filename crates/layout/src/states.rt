@@ -4,7 +4,7 @@ ghost use mathlib.Core.Bool.{_&&_};
 ghost use Prim.Native.Nat.{_+_, _≤_};
 ghost use lib.ListN.{length};
 ghost use Rattle.layout.specs.Bytes.{over};
-ghost use Rattle.layout.specs.StateBytes.{stateHead, heldBytes, stateBytes, heldAt, stateAt, isFlag, soundBytes};
+ghost use Rattle.layout.specs.StateBytes.{stateHead, stateBytes, heldAt, stateAt, isFlag, soundBytes};
 use crate::bytes;
 use differences::Held;
 use stereo::Setup;
@@ -92,15 +92,6 @@ fn head_of(state: State) -> [u8; 6]
     ]
 }
 
-// A record is put at a place.
-fn put_held(out: &mut [u8], at: usize, held: Held)
-    requires { ⌜ at + 35 ≤ length (now out) ⌝ }
-    ensures { λ _. ⌜ (now (out .exit) ≡ over (now (out .entry)) at (heldBytes held)) × (length (heldBytes held) ≡ 35) ⌝ }
-{
-    let indices = held.indices;
-    bytes::put_numbered(out, at, held.mode, indices);
-}
-
 // A state is put at the front of a buffer.
 pub fn put_state(out: &mut [u8], state: State)
     requires { ⌜ 146 ≤ length (now out) ⌝ }
@@ -108,12 +99,12 @@ pub fn put_state(out: &mut [u8], state: State)
 {
     let head = head_of(state);
     bytes::put(out, 0, &head);
-    let iid = state.iid;
-    put_held(out, 6, iid);
-    let icc = state.icc;
-    put_held(out, 41, icc);
-    let ipd = state.ipd;
-    put_held(out, 76, ipd);
-    let opd = state.opd;
-    put_held(out, 111, opd);
+    let iid = state.iid.indices;
+    bytes::put_numbered(out, 6, state.iid.mode, iid);
+    let icc = state.icc.indices;
+    bytes::put_numbered(out, 41, state.icc.mode, icc);
+    let ipd = state.ipd.indices;
+    bytes::put_numbered(out, 76, state.ipd.mode, ipd);
+    let opd = state.opd.indices;
+    bytes::put_numbered(out, 111, state.opd.mode, opd);
 }

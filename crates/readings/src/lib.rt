@@ -31,8 +31,15 @@ fn refused(number: u8, state: State) -> Reading
 fn refused_at(number: u8, state: State) -> Reading
     ensures { λ r. ⌜ r ≡ refusal number (lost state) ⌝ }
 {
-    let next = states::lost(state);
-    refused(number, next)
+    let contents = payloads::no_contents();
+    let mut next = state;
+    next.instep = false;
+    Reading {
+        number,
+        bits: 0,
+        contents,
+        state: next,
+    }
 }
 
 // The state that a payload is read from: out of step the fresh one.
@@ -82,8 +89,8 @@ fn looked_at(size: usize) -> usize
     1025
 }
 
-// A payload's bytes.
-fn read_bytes(state: State, s: &[u8]) -> Reading
+// A payload that fills a slice: what it holds, how many bits it used, and the next state.
+pub fn read_bytes(state: State, s: &[u8]) -> Reading
     ensures { λ r. ⌜ r ≡ readBytes state (now (s .entry)) ⌝ }
 {
     let codes = tables::codes();

@@ -15,7 +15,7 @@ use Rattle.handset_stereo.proofs.judge_stereo.Reads as judge-stereo-rea
 use Rattle.layout.proofs.answers.put_answer.Reads as put-answer-reads
 use Rattle.layout.proofs.states.put_state.Reads as put-state-reads
 use Rattle.layout.proofs.states.state_at.Reads as state-at-reads
-use Rattle.readings.proofs.read.Reads as read-reads
+use Rattle.readings.proofs.read_bytes.Reads as read-bytes-reads
 
 judge-stereo-requires : tie.Need-judge-stereo-requires
 judge-stereo-requires c κs = search needs
@@ -38,12 +38,42 @@ state-at-requires c κs =
     _∙_ {b = j .judge-stereo .result} (sym (j .judge-stereo .ensures)) (tested .if1 .left) in
     sound-long (a .state .now) (stereo-passed (a .state .now) (length (a .buf .now)) (a .start) (a .end) (length (a .answer .now)) e .1)
 
-read-requires : tie.Need-read-requires
-read-requires c κs = search needs
+sub-read-bytes : tie.Need-sub-read-bytes
+sub-read-bytes c =
+    let tested = c .before .before in
+    let j = tested .before in
+    let a = j .before .before .before .before .before .args in
+    let e : stereoJudged (a .state .now) (length (a .buf .now)) (a .start) (a .end) (length (a .answer .now)) ≡ 0 =
+    _∙_ {b = j .judge-stereo .result} (sym (j .judge-stereo .ensures)) (tested .if1 .left) in
+    let p = stereo-passed (a .state .now) (length (a .buf .now)) (a .start) (a .end) (length (a .answer .now)) e in
+    omega (arith, p .2, p .3)
+
+part-read-bytes-start : tie.Need-part-read-bytes-start
+part-read-bytes-start c =
+    let tested = c .before .before in
+    let j = tested .before in
+    let a = j .before .before .before .before .before .args in
+    let e : stereoJudged (a .state .now) (length (a .buf .now)) (a .start) (a .end) (length (a .answer .now)) ≡ 0 =
+    _∙_ {b = j .judge-stereo .result} (sym (j .judge-stereo .ensures)) (tested .if1 .left) in
+    let p = stereo-passed (a .state .now) (length (a .buf .now)) (a .start) (a .end) (length (a .answer .now)) e in
+    omega (arith, p .2, p .3)
+
+part-read-bytes-end : tie.Need-part-read-bytes-end
+part-read-bytes-end c =
+    let tested = c .before .before in
+    let j = tested .before in
+    let a = j .before .before .before .before .before .args in
+    let e : stereoJudged (a .state .now) (length (a .buf .now)) (a .start) (a .end) (length (a .answer .now)) ≡ 0 =
+    _∙_ {b = j .judge-stereo .result} (sym (j .judge-stereo .ensures)) (tested .if1 .left) in
+    let p = stereo-passed (a .state .now) (length (a .buf .now)) (a .start) (a .end) (length (a .answer .now)) e in
+    omega (arith, p .2, p .3)
+
+read-bytes-requires : tie.Need-read-bytes-requires
+read-bytes-requires c κs = search needs
 
 slice-write-state : tie.Need-slice-write-state
 slice-write-state c =
-    let tested = c .before .before .before .before .before in
+    let tested = c .before .before .before .before .before .before in
     let j = tested .before in
     let a = j .before .before .before .before .before .args in
     let e : stereoJudged (a .state .now) (length (a .buf .now)) (a .start) (a .end) (length (a .answer .now)) ≡ 0 =
@@ -58,18 +88,18 @@ same-length-2 c = search needs
 
 returns-2 : tie.Need-returns-2
 returns-2 c =
-    let tested = c .before .before .before .before .before .before in
+    let tested = c .before .before .before .before .before .before .before in
     let j = tested .before in
     let a = j .before .before .before .before .before .args in
     let e : stereoJudged (a .state .now) (length (a .buf .now)) (a .start) (a .end) (length (a .answer .now)) ≡ 0 =
     _∙_ {b = j .judge-stereo .result} (sym (j .judge-stereo .ensures)) (tested .if1 .left) in
     let read = c .before .before .before in
-    let r : read .read .result ≡ stereoReading (a .state .now) (a .buf .now) (a .start) (a .end) = read .read .ensures ∙ rw (read .before .state-at .ensures) in
+    let r : read .read-bytes .result ≡ stereoReading (a .state .now) (a .buf .now) (a .start) (a .end) = read .read-bytes .ensures ∙ rw (read .before .before .state-at .ensures) in
     rw r (payload-refused (a .state .now) (a .buf .now) (a .start) (a .end) (a .answer .now) e (rw r at (c .before .if2 .taken)))
 
 put-state-requires : tie.Need-put-state-requires
 put-state-requires c κs =
-    let tested = c .before .before .before .before .before .before in
+    let tested = c .before .before .before .before .before .before .before in
     let j = tested .before in
     let a = j .before .before .before .before .before .args in
     let e : stereoJudged (a .state .now) (length (a .buf .now)) (a .start) (a .end) (length (a .answer .now)) ≡ 0 =
@@ -78,7 +108,7 @@ put-state-requires c κs =
 
 put-answer-requires : tie.Need-put-answer-requires
 put-answer-requires c κs =
-    let tested = c .before .before .before .before .before .before .before .before .before .before in
+    let tested = c .before .before .before .before .before .before .before .before .before .before .before in
     let j = tested .before in
     let a = j .before .before .before .before .before .args in
     let e : stereoJudged (a .state .now) (length (a .buf .now)) (a .start) (a .end) (length (a .answer .now)) ≡ 0 =
@@ -93,14 +123,14 @@ same-length-4 c = search needs
 
 returns-3 : tie.Need-returns-3
 returns-3 c =
-    let tested = c .before .before .before .before .before .before .before .before .before .before .before .before .before in
+    let tested = c .before .before .before .before .before .before .before .before .before .before .before .before .before .before in
     let j = tested .before in
     let a = j .before .before .before .before .before .args in
     let e : stereoJudged (a .state .now) (length (a .buf .now)) (a .start) (a .end) (length (a .answer .now)) ≡ 0 =
     _∙_ {b = j .judge-stereo .result} (sym (j .judge-stereo .ensures)) (tested .if1 .left) in
     let put = c .before .before .before .before .before .before in
     let read = put .before .before .before .before in
-    let r : read .read .result ≡ stereoReading (a .state .now) (a .buf .now) (a .start) (a .end) = read .read .ensures ∙ rw (read .before .state-at .ensures) in
+    let r : read .read-bytes .result ≡ stereoReading (a .state .now) (a .buf .now) (a .start) (a .end) = read .read-bytes .ensures ∙ rw (read .before .before .state-at .ensures) in
     let ends = accepted (a .state .now) (a .buf .now) (a .start) (a .end) (a .answer .now) e (rw r at (put .before .before .if2 .left)) in
     (ends .0, (put .put-state .ensures ∙ rw r (ends .1 .0), c .before .before .put-answer .ensures ∙ rw r (ends .1 .1)))
 
@@ -112,7 +142,10 @@ oarcradler-read-stereo-spec =
     same-length
     returns
     state-at-requires
-    read-requires
+    sub-read-bytes
+    part-read-bytes-start
+    part-read-bytes-end
+    read-bytes-requires
     slice-write-state
     cast-result
     same-length-2

@@ -3,7 +3,7 @@ use mathlib.Core.Path.{refl, _∙_}
 use native.Mathlib.Omega.{arith}
 use lib.ListN.{length}
 use borrow.Author.Needs.{needs}
-use Rattle.layout.specs.StateBytes.{stateHead, stateBytes}
+use Rattle.layout.specs.StateBytes.{stateHead, heldBytes, stateBytes}
 use Rattle.layout.proofs.OverLaws.{Put, put-next}
 use Rattle.layout.proofs.states.put_state.Statement.{statement}
 use Rattle.layout.proofs.states.put_state.Tie as tie
@@ -11,7 +11,7 @@ use Rattle.layout.proofs.states.put_state.Reads as reads
 use Rattle.layout.proofs.states.put_state.Lts as lts
 use Rattle.layout.proofs.bytes.put.Reads as put-reads
 use Rattle.layout.proofs.states.head_of.Reads as head-of-reads
-use Rattle.layout.proofs.states.put_held.Reads as put-held-reads
+use Rattle.layout.proofs.bytes.put_numbered.Reads as put-numbered-reads
 
 head-of-requires : tie.Need-head-of-requires
 head-of-requires c κs = search needs
@@ -22,23 +22,23 @@ slice-aggregate-put c = search needs
 put-requires : tie.Need-put-requires
 put-requires c κs = search needs
 
-put-held-requires : tie.Need-put-held-requires
-put-held-requires c κs = search needs
+put-numbered-requires : tie.Need-put-numbered-requires
+put-numbered-requires c κs = search needs
 
-put-held-requires-2 : tie.Need-put-held-requires-2
-put-held-requires-2 c κs = search needs
+put-numbered-requires-2 : tie.Need-put-numbered-requires-2
+put-numbered-requires-2 c κs = search needs
 
-put-held-requires-3 : tie.Need-put-held-requires-3
-put-held-requires-3 c κs = search needs
+put-numbered-requires-3 : tie.Need-put-numbered-requires-3
+put-numbered-requires-3 c κs = search needs
 
-put-held-requires-4 : tie.Need-put-held-requires-4
-put-held-requires-4 c κs = search needs
+put-numbered-requires-4 : tie.Need-put-numbered-requires-4
+put-numbered-requires-4 c κs = search needs
 
 same-length : tie.Need-same-length
 same-length c = search needs
 
 returns : tie.Need-returns
-unfolding stateBytes stateHead
+unfolding stateBytes stateHead heldBytes
 returns c =
     let opd = c .before .before in
     let ipd = opd .before .before .before .before .before in
@@ -50,10 +50,10 @@ returns c =
     let st = entry .args .state in
     let long : 146 ≤ length s = entry .pre in
     let at-6 : Put s 0 (stateHead st) 6 (head .put .last .0) = (head .put .ensures ∙ rw (head .before .before .before .head-of .ensures), refl) in
-    let at-41 = put-next s 0 _ 6 _ 35 at-6 (iid .put-held .ensures) (omega arith) in
-    let at-76 = put-next s 0 _ 41 _ 35 at-41 (icc .put-held2 .ensures) (omega arith) in
-    let at-111 = put-next s 0 _ 76 _ 35 at-76 (ipd .put-held3 .ensures) (omega arith) in
-    put-next s 0 _ 111 _ 35 at-111 (opd .put-held4 .ensures) (omega arith) .0
+    let at-41 = put-next s 0 _ 6 _ 35 at-6 (iid .put-numbered .ensures) (omega arith) in
+    let at-76 = put-next s 0 _ 41 _ 35 at-41 (icc .put-numbered2 .ensures) (omega arith) in
+    let at-111 = put-next s 0 _ 76 _ 35 at-76 (ipd .put-numbered3 .ensures) (omega arith) in
+    put-next s 0 _ 111 _ 35 at-111 (opd .put-numbered4 .ensures) (omega arith) .0
 
 pub put-state-spec : {M : Type 1} → statement M
 put-state-spec =
@@ -62,9 +62,9 @@ put-state-spec =
     head-of-requires
     slice-aggregate-put
     put-requires
-    put-held-requires
-    put-held-requires-2
-    put-held-requires-3
-    put-held-requires-4
+    put-numbered-requires
+    put-numbered-requires-2
+    put-numbered-requires-3
+    put-numbered-requires-4
     same-length
     returns)
