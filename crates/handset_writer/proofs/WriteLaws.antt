@@ -1,13 +1,13 @@
 -- The three ways in which a call of the stereo writer ends.
 -- Assumes nothing.
 use Prim.Native.Nat.{ℕ}
-use mathlib.Core.Path.{_≡_, refl, sym}
+use mathlib.Core.Path.{_≡_, sym}
 use mathlib.Core.List.{List}
 use mathlib.Core.Bool.{true, false}
 use borrow.Author.Tests.{eq-eqb, ne-eqb}
 use lib.Dec.{eqb}
 use lib.ListN.{length}
-use Rattle.writer.specs.Writing.{writing, writtenOver}
+use Rattle.writer.specs.Writing.{writtenOver}
 use Rattle.layout.specs.Bytes.{wordOf, over}
 use Rattle.layout.specs.StateBytes.{stateBytes, stateAt}
 use Rattle.layout.specs.ContentsBytes.{contentsAt}

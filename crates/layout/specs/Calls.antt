@@ -1,9 +1,7 @@
 -- What every call over bytes shares: the range of a payload and room for an answer are judged before anything is read.
 use Prim.Native.Nat.{ℕ}
 use mathlib.Core.List.{List}
-use mathlib.Core.Bool.{Bool}
 use lib.Dec.{eqb, leb}
-use lib.ListN.{length}
 use Rattle.bits.specs.Reader.{pick}
 use Rattle.bits.specs.Payload.{inBuffer}
 use Rattle.layout.specs.Bytes.{over}

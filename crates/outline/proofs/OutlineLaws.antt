@@ -12,7 +12,6 @@ use lib.ListN.{length}
 use Rattle.bits.specs.Reader.{pick}
 use Rattle.tag.specs.Image.{countOf, offsetOf, refusedHeader, headerOf, partOf, bytesOf}
 use Rattle.tag.specs.declared.Header.{Header}
-use Rattle.tag.specs.declared.Part.{Part}
 use Rattle.tag.proofs.ImageLaws.{Sound, header-sound}
 use Rattle.layout.specs.Bytes.{over}
 use Rattle.outline.specs.Answers.{stateFrom, stateBefore}

@@ -1,14 +1,13 @@
 -- The row of a channel stream, from what its reader answered.
 -- Assumes nothing.
 use Prim.Native.Nat.{ℕ}
-use mathlib.Core.Path.{_≡_, refl, sym, ap, _∙_}
-use mathlib.Core.List.{List, [], _∷_, _++_, append-nil}
-use lib.IntN.{ℤ, pos}
+use mathlib.Core.Path.{_≡_, refl}
+use mathlib.Core.List.{[], _∷_, append-nil}
+use lib.IntN.{pos}
 use lib.ListN.{replicate}
 use Rattle.bits.specs.Reader.{Answer, got, refused}
 use Rattle.channel.specs.Stream.{Stream}
 use Rattle.channel.specs.Promise.{readingOf, linesAfter}
-use Rattle.channel.specs.declared.Reading.{Reading}
 use Rattle.outline.specs.Outline.{sounding, channelRow}
 use Rattle.outline.proofs.SoundingLaws.{sounding-zeros}
 

@@ -1,10 +1,10 @@
 -- A refused payload and a missing one leave, over bytes, what they leave of the state that the bytes stand for: only the mark is touched.
 -- Assumes nothing.
 use Prim.Native.Nat.{ℕ, _+_, _<_, _≤_}
-use mathlib.Core.Path.{_≡_, refl}
+use mathlib.Core.Path.{_≡_}
 use mathlib.Core.List.{List}
 use native.Mathlib.Omega.{arith}
-use lib.ListN.{length, set}
+use lib.ListN.{length}
 use lib.Seq.{getD-set-same, getD-set-other, drop-set-lt}
 use Rattle.stereo.specs.State.{lost}
 use Rattle.layout.specs.Bytes.{indicesAt}

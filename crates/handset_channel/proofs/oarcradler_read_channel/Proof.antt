@@ -1,3 +1,6 @@
+-- The call ends in one of three ways, and `ChannelLaws` says of each what its definition gives; the reader is asked with an index that
+-- was narrowed, which changes nothing.
+-- Assumes nothing.
 use mathlib.Core.Path.{sym, _∙_}
 use lib.ListN.{length}
 use Rattle.layout.proofs.CallLaws.{judged-room}

@@ -1,3 +1,5 @@
+-- The word, the five bytes and the groups are put one after another, so they make one run of 17.
+-- Assumes nothing.
 use mathlib.Core.Path.{refl, _∙_}
 use mathlib.Core.List.{[], _∷_}
 use native.Mathlib.Omega.{arith}

@@ -1,3 +1,5 @@
+-- 2 where the answer does not fit, then what the header is refused with; else its two words.
+-- Assumes nothing.
 use mathlib.Core.Path.{sym, ap, _∙_}
 use native.Mathlib.Omega.{arith}
 use lib.ListN.{length}

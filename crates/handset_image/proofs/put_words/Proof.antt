@@ -1,3 +1,5 @@
+-- Two words are put one after the other, so they make one run of eight bytes.
+-- Assumes nothing.
 use mathlib.Core.Path.{refl, _∙_}
 use native.Mathlib.Omega.{arith}
 use Rattle.layout.specs.Bytes.{wordOf}

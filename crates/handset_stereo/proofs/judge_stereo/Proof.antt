@@ -1,5 +1,7 @@
+-- Each return shows the tests of `stereoJudged` up to the one that refused.
+-- Assumes nothing.
 use mathlib.Core.Path.{sym, _∙_}
-use borrow.Author.Tests.{eq-eqb, ne-eqb, not-true, not-false}
+use borrow.Author.Tests.{ne-eqb, not-true, not-false}
 use Rattle.handset_stereo.specs.ReadStereo.{stereoJudged}
 use borrow.Author.Needs.{needs}
 use Rattle.handset_stereo.proofs.judge_stereo.Statement.{statement}

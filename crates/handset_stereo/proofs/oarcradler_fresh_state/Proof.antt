@@ -1,3 +1,5 @@
+-- 2 where the state does not fit; else what `put_state` puts.
+-- Assumes nothing.
 use mathlib.Core.Path.{_∙_}
 use native.Mathlib.Omega.{arith}
 use lib.ListN.{length}

@@ -1,5 +1,7 @@
-use Prim.Native.Nat.{_≤_}
-use mathlib.Core.Path.{_≡_, refl, sym, _∙_, ap}
+-- The call ends in one of three ways, and `StereoLaws` says of each what its definition gives; where nothing was refused before the first
+-- bit, the range lies in the buffer, the state is sound and the answer has room.
+-- Assumes nothing.
+use mathlib.Core.Path.{_≡_, sym, _∙_}
 use native.Mathlib.Omega.{arith}
 use lib.ListN.{length}
 use Rattle.handset_stereo.specs.ReadStereo.{stereoJudged, stereoReading}

@@ -1,4 +1,6 @@
-use mathlib.Core.Path.{refl, sym, _∙_}
+-- 4 where the bytes are not sound; else there are bytes enough, and the mark is one of them.
+-- Assumes nothing.
+use mathlib.Core.Path.{sym, _∙_}
 use native.Mathlib.Omega.{arith}
 use borrow.Author.Tests.{not-true, not-false}
 use Rattle.layout.proofs.CallLaws.{sound-long}

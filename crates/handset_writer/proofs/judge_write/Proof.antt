@@ -1,3 +1,5 @@
+-- Each return shows the tests of `writeJudged` up to the one that refused.
+-- Assumes nothing.
 use mathlib.Core.Path.{sym, _∙_}
 use borrow.Author.Tests.{le-leb, lt-leb, not-true, not-false}
 use borrow.Author.Needs.{needs}

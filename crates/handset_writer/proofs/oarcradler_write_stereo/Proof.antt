@@ -1,4 +1,5 @@
-use Prim.Native.Nat.{_≤_}
+-- The call ends in one of three ways, and `WriteLaws` says of each what its definition gives.
+-- Assumes nothing.
 use mathlib.Core.Path.{_≡_, sym, ap, _∙_}
 use native.Mathlib.Omega.{arith}
 use lib.ListN.{length}

@@ -1,3 +1,5 @@
+-- The outputs that are lent have just the length that is asked, so the reader is the one of `channelIn`; `RowLaws` says its row.
+-- Assumes nothing.
 use mathlib.Core.Path.{_≡_, _∙_}
 use lib.IntN.{pos}
 use lib.ListN.{replicate}

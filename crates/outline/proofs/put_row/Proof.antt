@@ -1,6 +1,8 @@
-use Prim.Native.Nat.{_+_, _<_}
+-- Four stores, one after another, make one run.
+-- Assumes nothing.
+use Prim.Native.Nat.{_+_}
 use native.Mathlib.Omega.{arith}
-use lib.ListN.{length, set, length-set}
+use lib.ListN.{set, length-set}
 use Rattle.layout.proofs.OverLaws.{put-one, put-next}
 use borrow.Author.Needs.{needs}
 use Rattle.outline.proofs.put_row.Statement.{statement}

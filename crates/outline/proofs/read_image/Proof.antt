@@ -1,5 +1,6 @@
-use Prim.Native.Nat.{_*_, _≤_}
-use mathlib.Core.Path.{_≡_, sym, _∙_}
+-- The outline ends in one of three ways, and `OutlineLaws` says of each what its definition gives.
+-- Assumes nothing.
+use mathlib.Core.Path.{_∙_}
 use native.Mathlib.Omega.{arith}
 use Rattle.tag.specs.Image.{headerOf}
 use Rattle.tag.proofs.ImageLaws.{header-sound}

@@ -1,3 +1,5 @@
+-- The row and the state are those of the reading.
+-- Assumes nothing.
 use borrow.Author.Needs.{needs}
 use Rattle.outline.specs.Answers.{stereoIn}
 use Rattle.outline.proofs.stereo_turn.Statement.{statement}

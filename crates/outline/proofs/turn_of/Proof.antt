@@ -1,3 +1,5 @@
+-- By the parity of the payload's number, as `rowFrom` and `stateFrom` go.
+-- Assumes nothing.
 use Prim.Native.Nat.{_%_}
 use mathlib.Core.Path.{_∙_}
 use borrow.Author.Tests.{eq-eqb, ne-eqb}

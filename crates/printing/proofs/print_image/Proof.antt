@@ -1,3 +1,5 @@
+-- An outline that is answered has at most 1,024 payloads, so its rows are all there.
+-- Assumes nothing.
 use Prim.Native.Nat.{_≤_}
 use lib.ListN.{length}
 use Rattle.outline.proofs.OutlineLaws.{outline-few}

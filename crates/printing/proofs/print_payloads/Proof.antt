@@ -1,3 +1,5 @@
+-- Each payload that is printed has its four rows.
+-- Assumes nothing.
 use Prim.Native.Nat.{_-_, _≤_}
 use borrow.Author.Needs.{needs}
 use Rattle.printing.proofs.print_payloads.Statement.{statement}

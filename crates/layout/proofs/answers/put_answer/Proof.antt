@@ -1,3 +1,5 @@
+-- The head and the envelopes are put one after the other, so they make one run of 582.
+-- Assumes nothing.
 use native.Mathlib.Omega.{arith}
 use borrow.Author.Needs.{needs}
 use Rattle.layout.specs.ContentsBytes.{answerBytes}

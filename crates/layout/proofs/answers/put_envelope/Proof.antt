@@ -1,3 +1,5 @@
+-- Four runs of 35 bytes are put one after another, so they make one run of 140.
+-- Assumes nothing.
 use native.Mathlib.Omega.{arith}
 use borrow.Author.Needs.{needs}
 use Rattle.layout.specs.ContentsBytes.{rowBytes, envelopeBytes}

@@ -1,3 +1,5 @@
+-- The word and the three runs of six bytes are put one after another, so they make one run of 22.
+-- Assumes nothing.
 use Prim.Native.Nat.{_≤_}
 use mathlib.Core.Path.{refl, _∙_}
 use native.Mathlib.Omega.{arith}

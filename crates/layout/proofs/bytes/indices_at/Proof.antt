@@ -1,6 +1,6 @@
 -- So many bytes are turned into indices after each turn.
 -- Assumes nothing.
-use Prim.Native.Nat.{_+_, _-_, _<_, _≤_}
+use Prim.Native.Nat.{_-_, _<_, _≤_}
 use mathlib.Core.Path.{_≡_, refl, sym, _∙_}
 use mathlib.Core.List.{map, map-append}
 use native.Mathlib.Omega.{arith}

@@ -1,6 +1,6 @@
 -- So many indices stand after the number's byte after each turn.
 -- Assumes nothing.
-use Prim.Native.Nat.{_+_, _-_, _≤_}
+use Prim.Native.Nat.{_-_, _≤_}
 use mathlib.Core.Path.{_≡_, refl, _∙_}
 use mathlib.Core.List.{map}
 use native.Mathlib.Omega.{arith}
@@ -8,7 +8,7 @@ use native.Mathlib.Numerals.{add-one}
 use borrow.Author.Needs.{needs}
 use lib.ListN.{length, replicate, getD, length-set, length-map, List·getD-map}
 use lib.IntN.{pos}
-use lib.Seq.{paste, paste-zero, paste-suc, take-all}
+use lib.Seq.{paste, paste-zero, paste-suc}
 use mir.Syntax.{w8}
 use mir.Val.{ofZ}
 use mir.ValLaws.{toZ-ofZ}

@@ -1,3 +1,5 @@
+-- Each return shows the tests up to the one that failed.
+-- Assumes nothing.
 use native.Mathlib.Omega.{arith}
 use borrow.Author.Tests.{le-leb, lt-leb}
 use Rattle.layout.proofs.states.are_flags.Statement.{statement}

@@ -1,3 +1,5 @@
+-- Each return shows the tests of `soundBytes` up to the one that failed.
+-- Assumes nothing.
 use mathlib.Core.Path.{sym, _∙_}
 use native.Mathlib.Omega.{arith}
 use borrow.Author.Tests.{le-leb, lt-leb, not-true, not-false}

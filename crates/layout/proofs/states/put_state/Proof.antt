@@ -1,4 +1,6 @@
-use Prim.Native.Nat.{_+_, _≤_}
+-- The head and the four records are put one after another, so they make one run of 146.
+-- Assumes nothing.
+use Prim.Native.Nat.{_≤_}
 use mathlib.Core.Path.{refl, _∙_}
 use native.Mathlib.Omega.{arith}
 use lib.ListN.{length}
