@@ -7,14 +7,14 @@ use Rattle.bits.specs.Payload.{ended, whole}
 use Rattle.words.specs.Words.{fits, cutOff, scan, word}
 use Rattle.words.specs.Escape.{ones, magnitude, escape}
 use Rattle.tables.specs.Words.{allCodes, allLens}
-use Rattle.spectrum.specs.Bands.{long34, short34, long67, short67, bands, bandCount, firstLine, bandWidth}
-use Rattle.spectrum.specs.Grouping.{groupsFrom, groupsAfter, groupsOf}
-use Rattle.spectrum.specs.Tuple.{spectral, dim, base, offset, digit, signed, value, escaped, tuple}
-use Rattle.spectrum.specs.Spectrum.{put, bandWord, band, windowsBand, groupBand, groupLines, spectrum}
-use Rattle.side.specs.Window.{maxSfbOf, groupingOf, window}
-use Rattle.side.specs.Sections.{increments, sectionLength, fill, section, nextSection, groupSections, widthOf, groupBooks, sections}
-use Rattle.side.specs.Factors.{factor, bandFactor, firstFactors, scaleFactors}
-use Rattle.side.specs.Pulses.{pulse, eachPulse, startBand, pulseData, pulses, pulsed, changed, applyPulse, applyPulses}
+use Rattle.channel_lines.specs.Bands.{long34, short34, long67, short67, bands, bandCount, firstLine, bandWidth}
+use Rattle.channel_lines.specs.Grouping.{groupsFrom, groupsAfter, groupsOf}
+use Rattle.channel_lines.specs.Tuple.{spectral, dim, base, offset, digit, signed, value, escaped, tuple}
+use Rattle.channel_lines.specs.Spectrum.{put, bandWord, band, windowsBand, groupBand, groupLines, spectrum}
+use Rattle.channel_side.specs.Window.{maxSfbOf, groupingOf, window}
+use Rattle.channel_side.specs.Sections.{increments, sectionLength, fill, section, nextSection, groupSections, widthOf, groupBooks, sections}
+use Rattle.channel_side.specs.Factors.{factor, bandFactor, firstFactors, scaleFactors}
+use Rattle.channel_side.specs.Pulses.{pulse, eachPulse, startBand, pulseData, pulses, pulsed, changed, applyPulse, applyPulses}
 use Rattle.channel.specs.Stream.{headOf, unpulsed, codedOf, stream}
 
 unfoldable pub all : Unit {0}

@@ -8,8 +8,8 @@ use lib.ListN.{length, replicate}
 use lib.IntN.{ℤ, pos, negsuc}
 use Rattle.bits.specs.Reader.{got, refused}
 use Rattle.bits.specs.Payload.{whole}
-use Rattle.spectrum.specs.Grouping.{groupsAfter, inEight}
-use Rattle.side.specs.Sections.{sectionLength}
+use Rattle.channel_lines.specs.Grouping.{groupsAfter, inEight}
+use Rattle.channel_side.specs.Sections.{sectionLength}
 use Rattle.channel.specs.Stream.{stream}
 use Rattle.channel.specs.Promise.{readingOf, linesAfter, factorsAfter, booksAfter}
 use Rattle.channel.specs.declared.Reading.{Reading}

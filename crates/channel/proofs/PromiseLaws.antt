@@ -11,43 +11,43 @@ use lib.ListN.{length, take, drop}
 use Rattle.bits.specs.Reader.{got, refused, Reader, pick}
 use Rattle.bits.specs.Payload.{range, ended, whole}
 use Rattle.channel.specs.Stream.{stream}
-use Rattle.channel.specs.Promise.{judged, known, channel}
+use Rattle.channel.specs.Promise.{channelCallRefusal, known, channel}
 
 module _ (size start end index lines factors books : ℕ) where
-  pub judged-start : end < start → 1 ≡ judged size start end index lines factors books
-  unfolding judged
-  judged-start h = rw (lt-leb start end h)
+  pub refusal-start : end < start → 1 ≡ channelCallRefusal size start end index lines factors books
+  unfolding channelCallRefusal
+  refusal-start h = rw (lt-leb start end h)
 
   module _ (h₁ : start ≤ end) where
-    pub judged-end : size < end → 1 ≡ judged size start end index lines factors books
-    unfolding judged
-    judged-end h = rw (le-leb start end h₁, lt-leb end size h)
+    pub refusal-end : size < end → 1 ≡ channelCallRefusal size start end index lines factors books
+    unfolding channelCallRefusal
+    refusal-end h = rw (le-leb start end h₁, lt-leb end size h)
 
     module _ (h₂ : end ≤ size) where
-      pub judged-lines : lines < 1024 → 2 ≡ judged size start end index lines factors books
-      unfolding judged
-      judged-lines h = rw (le-leb start end h₁, le-leb end size h₂, lt-leb 1024 lines h)
+      pub refusal-lines : lines < 1024 → 2 ≡ channelCallRefusal size start end index lines factors books
+      unfolding channelCallRefusal
+      refusal-lines h = rw (le-leb start end h₁, le-leb end size h₂, lt-leb 1024 lines h)
 
       module _ (h₃ : 1024 ≤ lines) where
-        pub judged-factors : factors < 120 → 2 ≡ judged size start end index lines factors books
-        unfolding judged
-        judged-factors h = rw (le-leb start end h₁, le-leb end size h₂, le-leb 1024 lines h₃, lt-leb 120 factors h)
+        pub refusal-factors : factors < 120 → 2 ≡ channelCallRefusal size start end index lines factors books
+        unfolding channelCallRefusal
+        refusal-factors h = rw (le-leb start end h₁, le-leb end size h₂, le-leb 1024 lines h₃, lt-leb 120 factors h)
 
         module _ (h₄ : 120 ≤ factors) where
-          pub judged-books : books < 120 → 2 ≡ judged size start end index lines factors books
-          unfolding judged
-          judged-books h = rw (le-leb start end h₁, le-leb end size h₂, le-leb 1024 lines h₃, le-leb 120 factors h₄, lt-leb 120 books h)
+          pub refusal-books : books < 120 → 2 ≡ channelCallRefusal size start end index lines factors books
+          unfolding channelCallRefusal
+          refusal-books h = rw (le-leb start end h₁, le-leb end size h₂, le-leb 1024 lines h₃, le-leb 120 factors h₄, lt-leb 120 books h)
 
-          pub judged-index : 120 ≤ books → {n : ℕ} (b : Bool) → known index ≡ b → n ≡ pick b 0 3 → n ≡ judged size start end index lines factors books
-          unfolding judged
-          judged-index h b k e =
+          pub refusal-index : 120 ≤ books → {n : ℕ} (b : Bool) → known index ≡ b → n ≡ pick b 0 3 → n ≡ channelCallRefusal size start end index lines factors books
+          unfolding channelCallRefusal
+          refusal-index h b k e =
               e ∙ rw (le-leb start end h₁, le-leb end size h₂, le-leb 1024 lines h₃, le-leb 120 factors h₄, le-leb 120 books h, k)
 
 -- what is well where nothing is judged wrong
-pub judged-well : (size start end index lines factors books : ℕ) → judged size start end index lines factors books ≡ 0
+pub refusal-well : (size start end index lines factors books : ℕ) → channelCallRefusal size start end index lines factors books ≡ 0
     → (start ≤ end) × (end ≤ size) × (1024 ≤ lines) × (120 ≤ factors) × (120 ≤ books)
-unfolding judged
-judged-well size start end index lines factors books e =
+unfolding channelCallRefusal
+refusal-well size start end index lines factors books e =
     go (leb start end) refl (leb end size) refl (leb 1024 lines) refl (leb 120 factors) refl (leb 120 books) refl e
   where
     go : (a : Bool) → leb start end ≡ a → (b : Bool) → leb end size ≡ b → (c : Bool) → leb 1024 lines ≡ c → (d : Bool) → leb 120 factors ≡ d → (f : Bool)
@@ -61,12 +61,12 @@ judged-well size start end index lines factors books e =
     go true p true q true r true s false t e = absurd (omega arith)
 
 module _ (buf : List ℕ) (start end index lines factors books : ℕ) where
-  pub channel-not : (n : ℕ) → n ≡ judged (length buf) start end index lines factors books → (n ≡ 0 → ⊥)
+  pub channel-not : (n : ℕ) → n ≡ channelCallRefusal (length buf) start end index lines factors books → (n ≡ 0 → ⊥)
       → channel buf start end index lines factors books ≡ refused n 0
   unfolding channel
   channel-not n e h = rw (← e, ne-eqb n 0 h)
 
-  pub channel-is : judged (length buf) start end index lines factors books ≡ 0
+  pub channel-is : channelCallRefusal (length buf) start end index lines factors books ≡ 0
       → channel buf start end index lines factors books ≡ whole (stream index) (range buf start end)
   unfolding channel
   channel-is e = rw e

@@ -4,9 +4,9 @@ use Prim.Native.Nat.{ℕ}
 use mathlib.Core.List.{List}
 use Rattle.bits.proofs.Lawful.{Lawful, bind-lawful, give-lawful}
 use Rattle.bits.proofs.FieldLaws.{field-lawful, zeroBit-lawful}
-use Rattle.spectrum.proofs.SpectrumLawful.{spectrum-lawful}
-use Rattle.side.specs.Window.{Window}
-use Rattle.side.proofs.SideLawful.{window-lawful, sections-lawful, factors-lawful, pulses-lawful, applied-lawful}
+use Rattle.channel_lines.proofs.SpectrumLawful.{spectrum-lawful}
+use Rattle.channel_side.specs.Window.{Window}
+use Rattle.channel_side.proofs.SideLawful.{window-lawful, sections-lawful, factors-lawful, pulses-lawful, applied-lawful}
 use Rattle.channel.specs.Stream.{headOf, unpulsed, codedOf, stream}
 
 ruleset laws = (bind-lawful, give-lawful, field-lawful, zeroBit-lawful)

@@ -11,16 +11,16 @@ use Rattle.bits.specs.Answers.{endedAnswer}
 use Rattle.bits.specs.declared.Field.{Field}
 use Rattle.bits.specs.declared.Ended.{Ended}
 use Rattle.bits.specs.declared.Ended.the-variants.{At, Refused}
-use Rattle.spectrum.specs.Bands.{bands, long34, short34, long67, short67, allEdges}
-use Rattle.spectrum.specs.Spectrum.{groupLines, spectrum}
-use Rattle.side.specs.declared.window.Windowed.{Windowed}
+use Rattle.channel_lines.specs.Bands.{bands, long34, short34, long67, short67, allEdges}
+use Rattle.channel_lines.specs.Spectrum.{groupLines, spectrum}
+use Rattle.channel_side.specs.declared.window.Windowed.{Windowed}
 use Rattle.channel.specs.declared.stream.Opened.{Opened}
-use Rattle.side.specs.Answers.{windowAnswer, pulsesAnswer}
+use Rattle.channel_side.specs.Answers.{windowAnswer, pulsesAnswer}
 use Rattle.channel.specs.Answers.{headAnswer, HoldsLines}
-use Rattle.side.specs.Window.{Window, isShort, groups, window}
-use Rattle.side.specs.Sections.{groupBooks, widthOf, sections}
-use Rattle.side.specs.Factors.{firstFactors, scaleFactors}
-use Rattle.side.specs.Pulses.{Pulses, pulses, applyPulses}
+use Rattle.channel_side.specs.Window.{Window, isShort, groups, window}
+use Rattle.channel_side.specs.Sections.{groupBooks, widthOf, sections}
+use Rattle.channel_side.specs.Factors.{firstFactors, scaleFactors}
+use Rattle.channel_side.specs.Pulses.{Pulses, pulses, applyPulses}
 use Rattle.channel.specs.Stream.{Head, Coded, headOf, unpulsed, codedOf, stream}
 
 -- the answers, by the variants that they are

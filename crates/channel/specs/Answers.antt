@@ -7,8 +7,8 @@ use lib.IntN.{ℤ}
 use Rattle.bits.specs.Reader.{Answer, got, refused}
 use Rattle.bits.specs.declared.Ended.{Ended}
 use Rattle.bits.specs.declared.Ended.the-variants.{At, Refused as Stopped}
-use Rattle.spectrum.specs.Bands.{bandCount}
-use Rattle.side.specs.Answers.{windowOf}
+use Rattle.channel_lines.specs.Bands.{bandCount}
+use Rattle.channel_side.specs.Answers.{windowOf}
 use Rattle.channel.specs.declared.stream.Opening.{Opening}
 use Rattle.channel.specs.declared.stream.Opened.{Opened}
 use Rattle.channel.specs.declared.stream.Opened.the-variants.{Read as Open, Refused as NotOpen}

@@ -7,8 +7,8 @@ use lib.IntN.{ℤ}
 use lib.ListN.{length, drop, replicate}
 use Rattle.bits.specs.Reader.{Answer, got, refused, pick}
 use Rattle.bits.specs.Payload.{inBuffer, range, whole}
-use Rattle.spectrum.specs.Grouping.{inEight}
-use Rattle.side.specs.Window.{groups}
+use Rattle.channel_lines.specs.Grouping.{inEight}
+use Rattle.channel_side.specs.Window.{groups}
 use Rattle.channel.specs.Stream.{Head, Stream, stream}
 use Rattle.channel.specs.declared.Reading.{Reading}
 
@@ -18,16 +18,16 @@ known index = eqb index 3 || eqb index 4 || eqb index 6 || eqb index 7
 
 -- what is judged before any bit, of a buffer and lent outputs of so many places: 1 for the range, 2 for an output that is too short, 3 for
 -- the index; 0 where all is well
-unfoldable pub judged : ℕ → ℕ → ℕ → ℕ → ℕ → ℕ → ℕ → ℕ
-judged size start end index lines factors books =
+unfoldable pub channelCallRefusal : ℕ → ℕ → ℕ → ℕ → ℕ → ℕ → ℕ → ℕ
+channelCallRefusal size start end index lines factors books =
     pick (inBuffer start end size) (pick (leb 1024 lines && leb 120 factors && leb 120 books) (pick (known index) 0 3) 2) 1
 
 -- the stream in a range of a buffer, or what refuses it
 unfoldable pub channel : List ℕ → ℕ → ℕ → ℕ → ℕ → ℕ → ℕ → Answer Stream
 channel buf start end index lines factors books =
-    pick (eqb (judged (length buf) start end index lines factors books) 0)
+    pick (eqb (channelCallRefusal (length buf) start end index lines factors books) 0)
     (whole (stream index) (range buf start end))
-    (refused (judged (length buf) start end index lines factors books) 0)
+    (refused (channelCallRefusal (length buf) start end index lines factors books) 0)
 
 -- the answer to a refusal: every other number is 0
 abbrev pub refusal : ℕ → Reading

@@ -4,12 +4,12 @@ use mathlib.Core.List.{List}
 use lib.IntN.{ℤ}
 use Rattle.bits.specs.Reader.{Reader, give, _>>=_}
 use Rattle.bits.specs.Field.{field, zeroBit}
-use Rattle.spectrum.specs.Bands.{bands}
-use Rattle.spectrum.specs.Spectrum.{spectrum}
-use Rattle.side.specs.Window.{Window, isShort, groups, window}
-use Rattle.side.specs.Sections.{sections}
-use Rattle.side.specs.Factors.{scaleFactors}
-use Rattle.side.specs.Pulses.{Pulses, pulses, applyPulses}
+use Rattle.channel_lines.specs.Bands.{bands}
+use Rattle.channel_lines.specs.Spectrum.{spectrum}
+use Rattle.channel_side.specs.Window.{Window, isShort, groups, window}
+use Rattle.channel_side.specs.Sections.{sections}
+use Rattle.channel_side.specs.Factors.{scaleFactors}
+use Rattle.channel_side.specs.Pulses.{Pulses, pulses, applyPulses}
 
 -- global_gain and the window information
 pub record Head : Type 0 where

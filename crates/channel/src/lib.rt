@@ -6,7 +6,7 @@ ghost use lib.ListN.{length, drop};
 ghost use Rattle.bits.specs.Payload.{whole};
 ghost use Rattle.channel.specs.Answers.{headIn};
 ghost use Rattle.channel.specs.Stream.{stream};
-ghost use Rattle.channel.specs.Promise.{judged, refusal, accepted, channel, readingOf, linesAfter, factorsAfter, booksAfter};
+ghost use Rattle.channel.specs.Promise.{channelCallRefusal, refusal, accepted, channel, readingOf, linesAfter, factorsAfter, booksAfter};
 use crate::stream::Opened;
 use crate::stream::Opening;
 
@@ -25,7 +25,7 @@ pub struct Reading {
 }
 
 // What is judged before any bit is read: a refusal's number, or 0.
-fn judge(
+fn channel_call_refusal(
     size: usize,
     start: usize,
     end: usize,
@@ -34,7 +34,7 @@ fn judge(
     factors: usize,
     books: usize,
 ) -> u8
-    ensures { λ r. ⌜ r ≡ judged size start end index lines factors books ⌝ }
+    ensures { λ r. ⌜ r ≡ channelCallRefusal size start end index lines factors books ⌝ }
 {
     if end < start {
         return 1;
@@ -81,7 +81,7 @@ fn answer(opening: Opening, bits: usize) -> Reading
     ensures { λ r. ⌜ r ≡ accepted (headIn opening) bits ⌝ }
 {
     let info = opening.info;
-    let found = spectrum::grouping::groups_of(info.sequence == 2, info.grouping);
+    let found = channel_lines::grouping::groups_of(info.sequence == 2, info.grouping);
     let windows = found.windows;
     Reading {
         number: 0,
@@ -166,7 +166,7 @@ pub fn read_channel(
 {
     let first = start as usize;
     let last = end as usize;
-    let number = judge(
+    let number = channel_call_refusal(
         buf.len(),
         first,
         last,

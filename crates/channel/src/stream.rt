@@ -5,26 +5,26 @@ ghost use lib.Dec.{eqb};
 ghost use lib.IntN.{pos};
 ghost use lib.ListN.{length, replicate};
 ghost use Rattle.tables.specs.Tables.{Tables};
-ghost use Rattle.spectrum.specs.Bands.{bands, bandCount, allEdges};
-ghost use Rattle.side.specs.Answers.{windowOf};
+ghost use Rattle.channel_lines.specs.Bands.{bands, bandCount, allEdges};
+ghost use Rattle.channel_side.specs.Answers.{windowOf};
 ghost use Rattle.channel.specs.Answers.{headAnswer, SoundHead, openRefusal, HoldsLines, HoldsStream};
 ghost use Rattle.bits.specs.Answers.{endedAnswer};
 ghost use Rattle.bits.specs.Payload.{whole};
-ghost use Rattle.side.specs.Factors.{scaleFactors};
+ghost use Rattle.channel_side.specs.Factors.{scaleFactors};
 ghost use Rattle.channel.specs.Stream.{headOf, unpulsed, codedOf, stream};
 use bits::Ended;
 use bits::Field;
-use side::factors::read_factors;
-use side::pulses::apply_pulses;
-use side::pulses::read_pulses;
-use side::sections::read_books;
-use side::window::Info;
-use side::window::Windowed;
-use side::window::read_flag;
-use side::window::read_window;
-use spectrum::bands::part_of;
-use spectrum::grouping::groups_of;
-use spectrum::lines::read_lines;
+use channel_lines::bands::part_of;
+use channel_lines::grouping::groups_of;
+use channel_lines::lines::read_lines;
+use channel_side::factors::read_factors;
+use channel_side::pulses::apply_pulses;
+use channel_side::pulses::read_pulses;
+use channel_side::sections::read_books;
+use channel_side::window::Info;
+use channel_side::window::Windowed;
+use channel_side::window::read_flag;
+use channel_side::window::read_window;
 
 // Gain and window information.
 pub struct Opening {
@@ -263,7 +263,7 @@ pub fn read_payload(
 {
     let codes = tables::codes();
     let lens = tables::lens();
-    let edges = spectrum::bands::edges();
+    let edges = channel_lines::bands::edges();
     let end = 8 * s.len();
     let r = read_stream(s, end, &codes, &lens, &edges, index, books, factors, lines);
     let Opened::Read(_, next) = r else {

@@ -1,4 +1,4 @@
 // All numbers of a tag image on standard input.
 fn main() {
-    printing::print_input(true);
+    print::print_input(true);
 }

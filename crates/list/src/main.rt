@@ -1,4 +1,4 @@
 // The listing of a tag image on standard input.
 fn main() {
-    printing::print_input(false);
+    print::print_input(false);
 }

@@ -19,10 +19,10 @@ use Rattle.stereo.specs.Stereo.{from, refusal, readBytes, readFrom}
 use Rattle.stereo.specs.declared.State.{State}
 use Rattle.stereo.specs.declared.Contents.{Contents}
 use Rattle.stereo.proofs.StereoLaws.{outside-counts-not, read-cut}
-use Rattle.writer.specs.Spelling.{spelling}
-use Rattle.writer.specs.Writing.{writing}
-use Rattle.writer.proofs.WritingLaws.{write-read, read-write}
-use Rattle.runs.specs.Machine.{Event, payload as given, missing, reported, origin, judged, run, after, turn}
+use Rattle.stereo_writer.specs.Spelling.{spelling}
+use Rattle.stereo_writer.specs.Writing.{writing}
+use Rattle.stereo_writer.proofs.WritingLaws.{write-read, read-write}
+use Rattle.runs.specs.Machine.{Event, payload as given, missing, reported, origin, concluded, run, after, turn}
 use Rattle.runs.specs.Damage.{Restarting, NoRestart, AllLost, Silent}
 use Rattle.runs.proofs.TurnLaws.{own-turn, own-report}
 use Rattle.runs.proofs.Demand.{restored, nothing-between}
@@ -60,7 +60,7 @@ read-writes = read-write
 -- in a run from the fresh state 4 does not arise, and 1 only where a range is outside its buffer
 pub own-refusals : (es : List Event) (b : List ℕ) (start end : ℕ) → inBuffer start end (length b) ≡ true
     → turn stereo (after stereo (stereo .fresh) es) (given b start end)
-    ≡ judged stereo (after stereo (stereo .fresh) es) (stereo .read (origin stereo (after stereo (stereo .fresh) es)) (range b start end))
+    ≡ concluded stereo (after stereo (stereo .fresh) es) (stereo .read (origin stereo (after stereo (stereo .fresh) es)) (range b start end))
 own-refusals = own-turn stereo steady
 
 pub reports-taken : (es : List Event)

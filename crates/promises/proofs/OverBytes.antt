@@ -7,13 +7,13 @@ use native.Mathlib.Omega.{arith}
 use lib.ListN.{length}
 use lib.Seq.{getD-set-same, getD-set-other, drop-set-lt}
 use Rattle.stereo.specs.State.{lost}
-use Rattle.layout.specs.Bytes.{indicesAt}
-use Rattle.layout.specs.StateBytes.{heldAt, stateAt}
-use Rattle.handset_stereo.specs.StateCalls.{lostBytes}
+use Rattle.c_layout.specs.Bytes.{indicesAt}
+use Rattle.c_layout.specs.StateBytes.{recordAt, stateAt}
+use Rattle.c_stereo.specs.StateCalls.{lostBytes}
 
 module _ (s : List ℕ) where
-  record-stays : (at : ℕ) → 5 < at → heldAt (lostBytes s) at ≡ heldAt s at
-  unfolding heldAt indicesAt
+  record-stays : (at : ℕ) → 5 < at → recordAt (lostBytes s) at ≡ recordAt s at
+  unfolding recordAt indicesAt
   record-stays at h = rw (getD-set-other s 5 at 0 0 (λ e. absurd (omega arith)), drop-set-lt (at + 1) s 5 0 (omega arith))
 
   pub lost-bytes : 6 ≤ length s → stateAt (lostBytes s) ≡ lost (stateAt s)

@@ -5,8 +5,8 @@ use mathlib.Core.Path.{_≡_, refl}
 use mathlib.Core.List.{List, [], _∷_}
 use lib.IntN.{pos, negsuc}
 use lib.ListN.{getD}
-use Rattle.differences.specs.Indices.{padded}
-use Rattle.differences.specs.Rows.{noRow}
+use Rattle.stereo_indices.specs.Indices.{padded}
+use Rattle.stereo_indices.specs.Rows.{noRow}
 use Rattle.stereo.specs.State.{fresh}
 use Rattle.stereo.specs.Extension.{noPhases}
 use Rattle.stereo.specs.Stereo.{readFrom}

@@ -6,12 +6,12 @@ use mathlib.Core.List.{List, [], _∷_}
 use mathlib.Core.Bool.{true, false}
 use lib.IntN.{ℤ, pos}
 use Rattle.bits.specs.Reader.{got, refused}
-use Rattle.differences.specs.Held.{none, held}
-use Rattle.differences.specs.Indices.{padded, index}
-use Rattle.differences.specs.Rows.{noRows, noRow}
-use Rattle.differences.specs.declared.Kind.the-variants.{Iid, Icc, Ipd}
-use Rattle.differences.specs.declared.Held.{Held}
-use Rattle.differences.specs.declared.Row.{Row}
+use Rattle.stereo_indices.specs.Record.{none, recordOf}
+use Rattle.stereo_indices.specs.Indices.{padded, index}
+use Rattle.stereo_indices.specs.Rows.{noRows, noRow}
+use Rattle.stereo_indices.specs.declared.Kind.the-variants.{Iid, Icc, Ipd}
+use Rattle.stereo_indices.specs.declared.Record.{Record}
+use Rattle.stereo_indices.specs.declared.Row.{Row}
 use Rattle.stereo.specs.State.{fresh, lost}
 use Rattle.stereo.specs.Frame.{noFrame, noBorders}
 use Rattle.stereo.specs.Extension.{noPart, noExtension}
@@ -26,15 +26,15 @@ use Rattle.stereo.proofs.All.{all}
 abbrev row : ℕ → List ℤ → Row
 row time xs = record { time = time; indices = padded 34 (pos 0) xs }
 
-abbrev kept : ℕ → List ℤ → Held
-kept mode xs = held mode (padded 34 (pos 0) xs)
+abbrev kept : ℕ → List ℤ → Record
+kept mode xs = recordOf mode (padded 34 (pos 0) xs)
 
 -- ICC enabled in a mode, with its record
-abbrev withIcc : ℕ → Held → State
+abbrev withIcc : ℕ → Record → State
 withIcc mode h = record { setup = record { iid = false; icc = true; ext = false; iidmode = 7; iccmode = mode }; iid = none; icc = h; ipd = none; opd = none; instep = true }
 
 -- IID enabled in a mode, with a record
-abbrev withIid : ℕ → Held → State
+abbrev withIid : ℕ → Record → State
 withIid mode h = record { setup = record { iid = true; icc = false; ext = false; iidmode = mode; iccmode = 7 }; iid = h; icc = none; ipd = none; opd = none; instep = true }
 
 -- the extension enabled, and nothing else

@@ -12,14 +12,14 @@ use Rattle.bits.specs.Payload.{inBuffer, range, whole}
 use Rattle.stereo.specs.State.{sound, lost}
 use Rattle.stereo.specs.Payload.{payload}
 use Rattle.stereo.specs.Carried.{carried}
-use Rattle.stereo.specs.Stereo.{restart, from, refusal, taken, judged, readBytes, readFrom, missing}
+use Rattle.stereo.specs.Stereo.{restart, from, refusal, taken, readingOf, readBytes, readFrom, missing}
 use Rattle.stereo.specs.declared.State.{State}
 use Rattle.stereo.specs.declared.Contents.{Contents}
 use Rattle.stereo.proofs.StereoLaws.{fresh-sound, lost-sound}
-use Rattle.soundness.proofs.SoundLaws.{carried-sound}
-use Rattle.restarts.proofs.RestartLaws.{same-read, same-carried}
-use Rattle.writer.proofs.PayloadNumbers.{whole-not-0}
-use Rattle.runs.specs.Machine.{payload as given, missing as reporting, reported, turn, untouched, losing, accepted, judged as judging}
+use Rattle.stereo_laws.proofs.SoundLaws.{carried-sound}
+use Rattle.stereo_laws.proofs.RestartLaws.{same-read, same-carried}
+use Rattle.stereo_writer.proofs.PayloadNumbers.{whole-not-0}
+use Rattle.runs.specs.Machine.{payload as given, missing as reporting, reported, turn, untouched, losing, accepted, concluded}
 use Rattle.runs.specs.Damage.{Steady}
 use Rattle.promises.specs.Run.{stereo, turnOf, reportOf}
 
@@ -46,8 +46,8 @@ reads st b start end =
     step c n false = refl
 
     go : (p q : Bool) (a : Answer Contents) → ((n place : ℕ) → a ≡ refused n place → eqb n 0 ≡ false)
-        → pick p (pick q (judging stereo st a) (untouched stereo st 4)) (untouched stereo st 1)
-        ≡ turnOf (pick p (pick q (judged st a) (refusal 4 st)) (refusal 1 st))
+        → pick p (pick q (concluded stereo st a) (untouched stereo st 4)) (untouched stereo st 1)
+        ≡ turnOf (pick p (pick q (readingOf st a) (refusal 4 st)) (refusal 1 st))
     go false q a h = refl
     go true false a h = refl
     go true true (got c n) h = step c n (st .instep || restart c)

@@ -6,22 +6,22 @@ use mathlib.Core.List.{List}
 use mathlib.Core.Bool.{Bool}
 use lib.ListN.{length}
 use denote.Ref.{RefT}
-use Rattle.tag.specs.Image.{headerOf, partOf}
-use Rattle.tag.specs.declared.Header.{Header}
-use Rattle.tag.specs.declared.Part.{Part}
-use Rattle.held.specs.Took.{tookAt}
-use Rattle.held.specs.declared.Took.{Took}
-use Rattle.held.specs.declared.Held.{Held}
+use Rattle.image.specs.Image.{headerOf, partOf}
+use Rattle.image.specs.declared.Header.{Header}
+use Rattle.image.specs.declared.Part.{Part}
+use Rattle.bit_reader.specs.Took.{tookAt}
+use Rattle.bit_reader.specs.declared.Took.{Took}
+use Rattle.bit_reader.specs.declared.BitReader.{BitReader}
 use Rattle.stereo.specs.State.{fresh, sound}
 use Rattle.stereo.specs.Stereo.{readFrom, missing}
 use Rattle.stereo.specs.declared.State.{State}
 use Rattle.stereo.specs.declared.Contents.{Contents}
 use Rattle.stereo.specs.declared.Reading.{Reading}
 use Rattle.stereo.specs.declared.Report.{Report}
-use Rattle.writer.specs.Writing.{writing, writtenOver}
-use Rattle.writer.specs.declared.Written.{Written}
-use Rattle.lent.specs.Lent.{answerOf}
-use Rattle.lent.specs.declared.Answer.{Answer}
+use Rattle.stereo_writer.specs.Writing.{writing, writtenOver}
+use Rattle.stereo_writer.specs.declared.Written.{Written}
+use Rattle.stereo_lent.specs.Lent.{answerOf}
+use Rattle.stereo_lent.specs.declared.Answer.{Answer}
 
 module _ (st : State) where
   pub one-fresh : (r r′ : State) → r ≡ fresh → r′ ≡ fresh → r ≡ r′
@@ -61,14 +61,14 @@ one-header image r r′ p q = p ∙ sym q
 pub one-part : (image : List ℕ) (k : ℕ) (r r′ : Part) → r ≡ partOf image k → r′ ≡ partOf image k → r ≡ r′
 one-part image k r r′ p q = p ∙ sym q
 
--- of a field of the held bit reader: what was taken, and where the reader then stands
+-- of a field of the bit reader: what was taken, and where the reader then stands
 pub one-field : (bytes : List ℕ) (at n : ℕ) (t t′ : Took) (next next′ : ℕ) → (t ≡ tookAt bytes at n) × (next ≡ t .next) → (t′ ≡ tookAt bytes at n) × (next′ ≡ t′ .next)
     → (t ≡ t′) × (next ≡ next′)
 one-field bytes at n t t′ next next′ p q = let e = p .0 ∙ sym (q .0) in (e, p .1 ∙ ap (λ (t : Took). t .next) e ∙ sym (q .1))
 
--- of the held bit reader itself: the slice, which is the one that was passed, and the place
-pub one-held : (src : RefT (List ℕ)) (r r′ : Held) → (r .src ≡ src) × (r .at ≡ 0) → (r′ .src ≡ src) × (r′ .at ≡ 0) → r ≡ r′
-one-held src r r′ p q =
+-- of the bit reader itself: the slice, which is the one that was passed, and the place
+pub one-bit-reader : (src : RefT (List ℕ)) (r r′ : BitReader) → (r .src ≡ src) × (r .at ≡ 0) → (r′ .src ≡ src) × (r′ .at ≡ 0) → r ≡ r′
+one-bit-reader src r r′ p q =
     let e = p .0 ∙ sym (q .0) in
     let f = p .1 ∙ sym (q .1) in
     λ i. record { src = e i; at = f i }

@@ -6,15 +6,15 @@ use mathlib.Core.List.{List}
 use lib.IntN.{ℤ}
 use lib.ListN.{length}
 use Rattle.bits.specs.Reader.{Answer}
-use Rattle.tag.specs.declared.Header.{Header}
+use Rattle.image.specs.declared.Header.{Header}
 use Rattle.channel.specs.Stream.{Stream}
 use Rattle.channel.specs.Promise.{readingOf, linesAfter, factorsAfter, booksAfter}
-use Rattle.handset_channel.specs.ReadChannel.{channelCall, channelAnswerAfter}
-use Rattle.handset_image.specs.ImageCalls.{imageNumber, imageAnswerAfter, partNumber, partAnswerAfter}
-use Rattle.handset_stereo.specs.StateCalls.{freshNumber, freshAfter, missingNumber, missingAfter}
-use Rattle.handset_stereo.specs.ReadStereo.{stereoNumber, stereoStateAfter, stereoAnswerAfter}
-use Rattle.handset_writer.specs.WriteStereo.{writeNumber, writeStateAfter, writeContentsAfter, writeOutputAfter}
-use Rattle.outline.specs.Outline.{outlineOf, rowsAfter}
+use Rattle.c_channel.specs.ReadChannel.{channelCall, channelAnswerAfter}
+use Rattle.c_image.specs.ImageCalls.{imageNumber, imageAnswerAfter, partNumber, partAnswerAfter}
+use Rattle.c_stereo.specs.StateCalls.{freshNumber, freshAfter, missingNumber, missingAfter}
+use Rattle.c_stereo.specs.ReadStereo.{stereoNumber, stereoStateAfter, stereoAnswerAfter}
+use Rattle.c_writer.specs.WriteStereo.{writeNumber, writeStateAfter, writeContentsAfter, writeOutputAfter}
+use Rattle.image_outline.specs.Outline.{outlineOf, rowsAfter}
 
 -- two values that both are a third are equal
 same : {A : Type 0} {x y : A} (z : A) → x ≡ z → y ≡ z → x ≡ y

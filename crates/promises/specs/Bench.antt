@@ -5,11 +5,11 @@ use lib.IntN.{ℤ, pos, natAbs}
 use Rattle.bits.specs.Reader.{Answer, got, refused}
 use Rattle.bits.specs.Payload.{whole}
 use Rattle.words.specs.Escape.{escape}
-use Rattle.spectrum.specs.Grouping.{groupsAfter}
-use Rattle.side.specs.Sections.{sectionLength}
+use Rattle.channel_lines.specs.Grouping.{groupsAfter}
+use Rattle.channel_side.specs.Sections.{sectionLength}
 use Rattle.channel.specs.Stream.{Stream, stream}
-use Rattle.differences.specs.Indices.{index}
-use Rattle.differences.specs.declared.Kind.the-variants.{Iid, Ipd}
+use Rattle.stereo_indices.specs.Indices.{index}
+use Rattle.stereo_indices.specs.declared.Kind.the-variants.{Iid, Ipd}
 use Rattle.stereo.specs.State.{fresh, lost}
 use Rattle.stereo.specs.Stereo.{readFrom}
 use Rattle.stereo.specs.declared.Reading.{Reading}

@@ -8,7 +8,7 @@ use lib.ListN.{length}
 use Rattle.bits.specs.Reader.{Answer, got, refused, pick}
 use Rattle.bits.specs.Payload.{inBuffer, range}
 use Rattle.bits.proofs.Bools.{true-false}
-use Rattle.runs.specs.Machine.{Event, payload, missing, Machine, Outcome, answered, reported, Turn, origin, untouched, losing, accepted, judged, turn, after}
+use Rattle.runs.specs.Machine.{Event, payload, missing, Machine, Outcome, answered, reported, Turn, origin, untouched, losing, accepted, concluded, turn, after}
 use Rattle.runs.specs.Damage.{Steady, Restarting, isAnswer, isLost}
 
 -- an outcome that is no answer
@@ -18,7 +18,7 @@ no-answer {o = o} e q = let w : true ≡ false = sym (ap isAnswer e) ∙ q in ab
 module _ {S C : Type 0} (M : Machine S C) where
   -- a payload of a sound state whose range lies in its buffer
   pub read-turn : (st : S) (b : List ℕ) (x y : ℕ) → inBuffer x y (length b) ≡ true → M .sound st ≡ true
-      → turn M st (payload b x y) ≡ judged M st (M .read (origin M st) (range b x y))
+      → turn M st (payload b x y) ≡ concluded M st (M .read (origin M st) (range b x y))
   read-turn st b x y r s = rw (r, s)
 
   -- an answered payload lies in its buffer, and its state is sound
@@ -26,7 +26,7 @@ module _ {S C : Type 0} (M : Machine S C) where
       → (inBuffer x y (length b) ≡ true) × (M .sound st ≡ true) × (M .read (origin M st) (range b x y) ≡ got c n)
   answered-turn st b x y c n e = in-range (inBuffer x y (length b)) refl e
     where
-      from : (a : Answer C) → judged M st a .outcome ≡ answered c n → a ≡ got c n
+      from : (a : Answer C) → concluded M st a .outcome ≡ answered c n → a ≡ got c n
       from (refused m p) e = no-answer e refl
       from (got d m) e = kind (M .inStep st || M .restart d) e
         where
@@ -34,13 +34,13 @@ module _ {S C : Type 0} (M : Machine S C) where
           kind true e = let u : d ≡ c = cc in let v : m ≡ n = cc in cc
           kind false e = no-answer e refl
 
-      sound : (t : Bool) → M .sound st ≡ t → pick t (judged M st (M .read (origin M st) (range b x y))) (untouched M st 4) .outcome ≡ answered c n
+      sound : (t : Bool) → M .sound st ≡ t → pick t (concluded M st (M .read (origin M st) (range b x y))) (untouched M st 4) .outcome ≡ answered c n
           → (M .sound st ≡ true) × (M .read (origin M st) (range b x y) ≡ got c n)
       sound true q e = (q, from (M .read (origin M st) (range b x y)) e)
       sound false q e = no-answer e refl
 
       in-range : (t : Bool) → inBuffer x y (length b) ≡ t
-          → pick t (pick (M .sound st) (judged M st (M .read (origin M st) (range b x y))) (untouched M st 4)) (untouched M st 1) .outcome ≡ answered c n
+          → pick t (pick (M .sound st) (concluded M st (M .read (origin M st) (range b x y))) (untouched M st 4)) (untouched M st 1) .outcome ≡ answered c n
           → (inBuffer x y (length b) ≡ true) × (M .sound st ≡ true) × (M .read (origin M st) (range b x y) ≡ got c n)
       in-range true q e = let w = sound (M .sound st) refl e in (q, w .0, w .1)
       in-range false q e = no-answer e refl
@@ -53,9 +53,9 @@ module _ {S C : Type 0} (M : Machine S C) (law : Steady M) where
       go true q = rw q s
       go false q = rw q (law .fresh-sound)
 
-  judged-sound : (st : S) (s : List ℕ) → M .sound st ≡ true → (a : Answer C) → M .read (origin M st) s ≡ a → M .sound (judged M st a .state) ≡ true
-  judged-sound st s h (refused n p) q = law .lost-sound st h
-  judged-sound st s h (got c n) q = kind (M .inStep st || M .restart c)
+  concluded-sound : (st : S) (s : List ℕ) → M .sound st ≡ true → (a : Answer C) → M .read (origin M st) s ≡ a → M .sound (concluded M st a .state) ≡ true
+  concluded-sound st s h (refused n p) q = law .lost-sound st h
+  concluded-sound st s h (got c n) q = kind (M .inStep st || M .restart c)
     where
       kind : (t : Bool) → M .sound (pick t (accepted M st c n) (losing M st 35) .state) ≡ true
       kind true = law .carried-sound (origin M st) s c n (origin-sound st h) q
@@ -67,8 +67,8 @@ module _ {S C : Type 0} (M : Machine S C) (law : Steady M) where
   turn-sound st (payload b x y) h = go (inBuffer x y (length b))
     where
       go : (t : Bool)
-          → M .sound (pick t (pick (M .sound st) (judged M st (M .read (origin M st) (range b x y))) (untouched M st 4)) (untouched M st 1) .state) ≡ true
-      go true = rw h (judged-sound st (range b x y) h (M .read (origin M st) (range b x y)) refl)
+          → M .sound (pick t (pick (M .sound st) (concluded M st (M .read (origin M st) (range b x y))) (untouched M st 4)) (untouched M st 1) .state) ≡ true
+      go true = rw h (concluded-sound st (range b x y) h (M .read (origin M st) (range b x y)) refl)
       go false = h
 
   pub after-sound : (st : S) (es : List Event) → M .sound st ≡ true → M .sound (after M st es) ≡ true
@@ -77,7 +77,7 @@ module _ {S C : Type 0} (M : Machine S C) (law : Steady M) where
 
   -- in a run from the fresh state neither 1 nor 4 arises, but for a range outside its buffer: what comes is the payload's own
   pub own-turn : (es : List Event) (b : List ℕ) (x y : ℕ) → inBuffer x y (length b) ≡ true
-      → turn M (after M (M .fresh) es) (payload b x y) ≡ judged M (after M (M .fresh) es) (M .read (origin M (after M (M .fresh) es)) (range b x y))
+      → turn M (after M (M .fresh) es) (payload b x y) ≡ concluded M (after M (M .fresh) es) (M .read (origin M (after M (M .fresh) es)) (range b x y))
   own-turn es b x y r = read-turn M (after M (M .fresh) es) b x y r (after-sound (M .fresh) es (law .fresh-sound))
 
   pub own-report : (es : List Event) → turn M (after M (M .fresh) es) missing ≡ record { outcome = reported; state = M .lost (after M (M .fresh) es) }
@@ -95,7 +95,7 @@ module _ {S C : Type 0} (M : Machine S C) (law : Steady M) where
           → turn M st (payload b x y) ≡ record { outcome = answered c n; state = M .carried (M .fresh) c }
       comes o st b x y c n r h e q =
           read-turn M st b x y r h
-          ∙ ap (judged M st) (law .same-read o (origin M st) (range b x y) c n e q)
+          ∙ ap (concluded M st) (law .same-read o (origin M st) (range b x y) c n e q)
           ∙ taken (M .inStep st)
         where
           taken : (t : Bool) → pick (t || M .restart c) (accepted M st c n) (losing M st 35) ≡ record { outcome = answered c n; state = M .carried (M .fresh) c }
@@ -112,7 +112,7 @@ module _ {S C : Type 0} (M : Machine S C) (law : Steady M) where
       go false q = absurd (true-false false q refl)
   turn-lost st (payload b x y) q = in-range (inBuffer x y (length b)) q
     where
-      own : (a : Answer C) → isLost (judged M st a .outcome) ≡ true → M .inStep (judged M st a .state) ≡ false
+      own : (a : Answer C) → isLost (concluded M st a .outcome) ≡ true → M .inStep (concluded M st a .state) ≡ false
       own (refused n p) q = law .out-of-step st
       own (got c n) q = kind (M .inStep st || M .restart c) q
         where
@@ -120,14 +120,14 @@ module _ {S C : Type 0} (M : Machine S C) (law : Steady M) where
           kind true q = absurd (true-false false q refl)
           kind false q = law .out-of-step st
 
-      sound : (t : Bool) → isLost (pick t (judged M st (M .read (origin M st) (range b x y))) (untouched M st 4) .outcome) ≡ true
-          → M .inStep (pick t (judged M st (M .read (origin M st) (range b x y))) (untouched M st 4) .state) ≡ false
+      sound : (t : Bool) → isLost (pick t (concluded M st (M .read (origin M st) (range b x y))) (untouched M st 4) .outcome) ≡ true
+          → M .inStep (pick t (concluded M st (M .read (origin M st) (range b x y))) (untouched M st 4) .state) ≡ false
       sound true q = own (M .read (origin M st) (range b x y)) q
       sound false q = absurd (true-false false q refl)
 
       in-range : (t : Bool)
-          → isLost (pick t (pick (M .sound st) (judged M st (M .read (origin M st) (range b x y))) (untouched M st 4)) (untouched M st 1) .outcome) ≡ true
-          → M .inStep (pick t (pick (M .sound st) (judged M st (M .read (origin M st) (range b x y))) (untouched M st 4)) (untouched M st 1) .state) ≡ false
+          → isLost (pick t (pick (M .sound st) (concluded M st (M .read (origin M st) (range b x y))) (untouched M st 4)) (untouched M st 1) .outcome) ≡ true
+          → M .inStep (pick t (pick (M .sound st) (concluded M st (M .read (origin M st) (range b x y))) (untouched M st 4)) (untouched M st 1) .state) ≡ false
       in-range true q = sound (M .sound st) q
       in-range false q = absurd (true-false false q refl)
 
@@ -145,23 +145,23 @@ module _ {S C : Type 0} (M : Machine S C) (law : Steady M) where
       Quiet : Turn S C → Type 0
       Quiet t = (isAnswer (t .outcome) ≡ false) × (M .inStep (t .state) ≡ false)
 
-      own : inBuffer x y (length b) ≡ true → M .sound st ≡ true → (a : Answer C) → M .read (origin M st) (range b x y) ≡ a → Quiet (judged M st a)
+      own : inBuffer x y (length b) ≡ true → M .sound st ≡ true → (a : Answer C) → M .read (origin M st) (range b x y) ≡ a → Quiet (concluded M st a)
       own r s (refused m p) q = (refl, law .out-of-step st)
       own r s (got c m) q = kind (M .restart c) refl
         where
           kind : (t : Bool) → M .restart c ≡ t → Quiet (pick (M .inStep st || M .restart c) (accepted M st c m) (losing M st 35))
           kind true e =
               let t : turn M st (payload b x y) .outcome ≡ answered c m =
-              ap (λ (z : Turn S C). z .outcome) (read-turn M st b x y r s) ∙ ap (λ (a : Answer C). judged M st a .outcome) q ∙ rw (o, e) in
+              ap (λ (z : Turn S C). z .outcome) (read-turn M st b x y r s) ∙ ap (λ (a : Answer C). concluded M st a .outcome) q ∙ rw (o, e) in
               let w = restart-turn st st′ b x y h (c, m, t, e) in
               absurd (n (c, m, ap (λ (z : Turn S C). z .outcome) w ∙ t, e))
           kind false e = rw (o, e) (refl, law .out-of-step st)
 
-      sound : inBuffer x y (length b) ≡ true → (t : Bool) → M .sound st ≡ t → Quiet (pick t (judged M st (M .read (origin M st) (range b x y))) (untouched M st 4))
+      sound : inBuffer x y (length b) ≡ true → (t : Bool) → M .sound st ≡ t → Quiet (pick t (concluded M st (M .read (origin M st) (range b x y))) (untouched M st 4))
       sound r true s = own r s (M .read (origin M st) (range b x y)) refl
       sound r false s = (refl, o)
 
       in-range : (t : Bool) → inBuffer x y (length b) ≡ t
-          → Quiet (pick t (pick (M .sound st) (judged M st (M .read (origin M st) (range b x y))) (untouched M st 4)) (untouched M st 1))
+          → Quiet (pick t (pick (M .sound st) (concluded M st (M .read (origin M st) (range b x y))) (untouched M st 4)) (untouched M st 1))
       in-range true r = sound r (M .sound st) refl
       in-range false r = (refl, o)

@@ -51,15 +51,15 @@ module _ {S C : Type 0} (M : Machine S C) where
   accepted st c bits = record { outcome = answered c bits; state = M .carried (origin st) c }
 
   -- contents that were read are answered in step, or where they are a restart; else 35
-  abbrev pub judged : S → Answer C → Turn S C
-  judged st (refused n place) = losing st n
-  judged st (got c bits) = pick (M .inStep st || M .restart c) (accepted st c bits) (losing st 35)
+  abbrev pub concluded : S → Answer C → Turn S C
+  concluded st (refused n place) = losing st n
+  concluded st (got c bits) = pick (M .inStep st || M .restart c) (accepted st c bits) (losing st 35)
 
   -- 1, then 4, then the payload's own
   abbrev pub turn : S → Event → Turn S C
   turn st (payload buffer start end) =
       pick (inBuffer start end (length buffer))
-      (pick (M .sound st) (judged st (M .read (origin st) (range buffer start end))) (untouched st 4))
+      (pick (M .sound st) (concluded st (M .read (origin st) (range buffer start end))) (untouched st 4))
       (untouched st 1)
   turn st missing = pick (M .sound st) (record { outcome = reported; state = M .lost st }) (untouched st 4)
 

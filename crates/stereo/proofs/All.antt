@@ -7,11 +7,11 @@ use Rattle.bits.specs.Inside.{inside, leftOver}
 use Rattle.bits.specs.Payload.{ended, whole}
 use Rattle.words.specs.Words.{fits, cutOff, scan, word}
 use Rattle.tables.specs.Words.{allCodes, allLens}
-use Rattle.differences.specs.Kind.{bands, least, most, within}
-use Rattle.differences.specs.Difference.{firstTable, differenceTable, difference, middle, added}
-use Rattle.differences.specs.Held.{zeros, none, agrees, soundIndex, soundFrom, soundHeld}
-use Rattle.differences.specs.Indices.{reference, indexFrom, index, indices}
-use Rattle.differences.specs.Rows.{noRow, noRows, row, rowsOf, rows}
+use Rattle.stereo_indices.specs.Kind.{bands, least, most, within}
+use Rattle.stereo_indices.specs.Difference.{firstTable, differenceTable, difference, middle, added}
+use Rattle.stereo_indices.specs.Record.{zeros, none, agrees, soundIndex, soundFrom, soundRecord}
+use Rattle.stereo_indices.specs.Indices.{reference, indexFrom, index, indices}
+use Rattle.stereo_indices.specs.Rows.{noRow, noRows, row, rowsOf, rows}
 use Rattle.stereo.specs.State.{freshSetup, fresh, soundSetup, sound}
 use Rattle.stereo.specs.Header.{noHeader, mode, headerFields, header, setupAfter}
 use Rattle.stereo.specs.Frame.{envelopeCount, noBorders, bordersOf, borders, noFrame, frame}
@@ -21,5 +21,5 @@ use Rattle.stereo.specs.Carried.{recordAfter, phaseRecords, carriedIn, c
 use Rattle.stereo.specs.Stereo.{phasesAcross, restart, taken, readBytes, readFrom, missing}
 
 unfoldable pub all : Unit {0}
-unfolding bitAt bitsFrom field zeroBit counted listed here refuseAt inside leftOver ended whole fits cutOff scan word allCodes allLens bands least most within firstTable differenceTable difference middle added zeros none agrees soundIndex soundFrom soundHeld reference indexFrom index indices noRow noRows row rowsOf rows freshSetup fresh soundSetup sound noHeader mode headerFields header setupAfter envelopeCount noBorders bordersOf borders noFrame frame noPhases noBody noPart noExtension phasesIn phasesOf phases phaseFlag v0 another part announced escCount extensionSent extension noContents envelopes payload recordAfter phaseRecords carriedIn carried phasesAcross restart taken readBytes readFrom missing
+unfolding bitAt bitsFrom field zeroBit counted listed here refuseAt inside leftOver ended whole fits cutOff scan word allCodes allLens bands least most within firstTable differenceTable difference middle added zeros none agrees soundIndex soundFrom soundRecord reference indexFrom index indices noRow noRows row rowsOf rows freshSetup fresh soundSetup sound noHeader mode headerFields header setupAfter envelopeCount noBorders bordersOf borders noFrame frame noPhases noBody noPart noExtension phasesIn phasesOf phases phaseFlag v0 another part announced escCount extensionSent extension noContents envelopes payload recordAfter phaseRecords carriedIn carried phasesAcross restart taken readBytes readFrom missing
 all = tt

@@ -7,9 +7,9 @@ use Rattle.bits.specs.Reader.{got, refused}
 use Rattle.bits.specs.Answers.{endedAnswer}
 use Rattle.bits.specs.declared.Ended.{Ended}
 use Rattle.bits.specs.declared.Ended.the-variants.{At, Refused}
-use Rattle.differences.specs.Rows.{rows}
-use Rattle.differences.specs.declared.Kind.the-variants.{Iid, Icc}
-use Rattle.differences.specs.declared.Row.{Row}
+use Rattle.stereo_indices.specs.Rows.{rows}
+use Rattle.stereo_indices.specs.declared.Kind.the-variants.{Iid, Icc}
+use Rattle.stereo_indices.specs.declared.Row.{Row}
 use Rattle.stereo.specs.Header.{header, setupAfter}
 use Rattle.stereo.specs.Frame.{frame}
 use Rattle.stereo.specs.Extension.{extension}

@@ -19,13 +19,13 @@ use Rattle.bits.proofs.Taken.{field-below}
 use Rattle.bits.specs.Loop.{counted, more, listed}
 use Rattle.bits.specs.declared.Ended.{Ended}
 use Rattle.bits.specs.declared.Ended.the-variants.{At, Refused}
-use Rattle.differences.specs.Held.{held}
-use Rattle.differences.specs.Indices.{padded}
-use Rattle.differences.specs.Rows.{heldAfter, row}
-use Rattle.differences.specs.declared.Kind.the-variants.{Ipd, Opd}
-use Rattle.differences.specs.declared.Held.{Held}
-use Rattle.differences.specs.declared.Row.{Row}
-use Rattle.differences.proofs.RowLaws.{heldAfter-more}
+use Rattle.stereo_indices.specs.Record.{recordOf}
+use Rattle.stereo_indices.specs.Indices.{padded}
+use Rattle.stereo_indices.specs.Rows.{recordAfterRows, row}
+use Rattle.stereo_indices.specs.declared.Kind.the-variants.{Ipd, Opd}
+use Rattle.stereo_indices.specs.declared.Record.{Record}
+use Rattle.stereo_indices.specs.declared.Row.{Row}
+use Rattle.stereo_indices.proofs.RowLaws.{recordAfterRows-more}
 use Rattle.stereo.specs.Answers.{endedInside}
 use Rattle.stereo.specs.Extension.{noPhases, noPart, ipds, opds, phasesIn, phasesNext, phasesOf, phases, phaseFlag, v0, another, part, announced, escCount, extensionSent}
 use Rattle.stereo.specs.declared.Body.{Body}
@@ -33,7 +33,7 @@ use Rattle.stereo.specs.declared.Part.{Part}
 use Rattle.stereo.specs.declared.Extension.{Extension}
 use Rattle.stereo.specs.declared.Phases.{Phases}
 
-module _ (mode : ℕ) (ipd opd : Held) (s : List ℕ) (at end : ℕ) where
+module _ (mode : ℕ) (ipd opd : Record) (s : List ℕ) (at end : ℕ) where
   -- the phases of one envelope
   pub phases-refused : (n place : ℕ) → row Ipd mode ipd s at end ≡ refused n place → refused n place ≡ phasesIn mode ipd opd s at end
   unfolding phasesIn
@@ -66,13 +66,13 @@ opds-more [] p = refl
 opds-more (q ∷ ps) p = ap (λ (rs : List Row). q .opd ∷ rs) (opds-more ps p)
 
 -- the records after one envelope more
-pub after-ipds : (h : Held) (mode : ℕ) (ps : List Phases) (p : Phases) → heldAfter h mode (ipds (ps ++ p ∷ [])) ≡ held mode (p .ipd .indices)
-after-ipds h mode ps p = rw (ipds-more ps p) (heldAfter-more h mode (ipds ps) (p .ipd))
+pub after-ipds : (h : Record) (mode : ℕ) (ps : List Phases) (p : Phases) → recordAfterRows h mode (ipds (ps ++ p ∷ [])) ≡ recordOf mode (p .ipd .indices)
+after-ipds h mode ps p = rw (ipds-more ps p) (recordAfterRows-more h mode (ipds ps) (p .ipd))
 
-pub after-opds : (h : Held) (mode : ℕ) (ps : List Phases) (p : Phases) → heldAfter h mode (opds (ps ++ p ∷ [])) ≡ held mode (p .opd .indices)
-after-opds h mode ps p = rw (opds-more ps p) (heldAfter-more h mode (opds ps) (p .opd))
+pub after-opds : (h : Record) (mode : ℕ) (ps : List Phases) (p : Phases) → recordAfterRows h mode (opds (ps ++ p ∷ [])) ≡ recordOf mode (p .opd .indices)
+after-opds h mode ps p = rw (opds-more ps p) (recordAfterRows-more h mode (opds ps) (p .opd))
 
-module _ (mode : ℕ) (ipd opd : Held) (n : ℕ) (s : List ℕ) (at end : ℕ) where
+module _ (mode : ℕ) (ipd opd : Record) (n : ℕ) (s : List ℕ) (at end : ℕ) where
   -- v0
   pub v0-refused : (m place : ℕ) → phaseFlag mode s at end ≡ refused m place → refused m place ≡ v0 mode ipd opd n s at end
   unfolding v0

@@ -17,8 +17,8 @@ use Rattle.bits.proofs.LoopLaws.{listed-lawful}
 use Rattle.bits.proofs.PlacesLaws.{here-lawful}
 use Rattle.bits.proofs.InsideLaws.{Filling, refusing-filling, then-filling, filling-then, leftOver-filling, inside-lawful}
 use Rattle.bits.proofs.PayloadLaws.{whole-cut}
-use Rattle.differences.proofs.ReadingLaws.{row-lawful, rows-lawful}
-use Rattle.differences.specs.declared.Held.{Held}
+use Rattle.stereo_indices.proofs.ReadingLaws.{row-lawful, rows-lawful}
+use Rattle.stereo_indices.specs.declared.Record.{Record}
 use Rattle.stereo.specs.Header.{mode, headerFields, header}
 use Rattle.stereo.specs.Frame.{bordersOf, borders, frame}
 use Rattle.stereo.specs.Extension.{phasesIn, phasesOf, phases, phaseFlag, v0, another, part, announced, escCount, extensionSent, extension}
@@ -51,11 +51,11 @@ pub frame-lawful : Lawful frame
 unfolding frame
 frame-lawful = search (lawful, borders-lawful) depth 12
 
-one-lawful : (m : ℕ) (ipd opd : Held) → Lawful (phasesIn m ipd opd)
+one-lawful : (m : ℕ) (ipd opd : Record) → Lawful (phasesIn m ipd opd)
 unfolding phasesIn
 one-lawful m ipd opd = search (lawful, row-lawful) depth 8
 
-phases-lawful : (on m : ℕ) (ipd opd : Held) (n : ℕ) → Lawful (phases on m ipd opd n)
+phases-lawful : (on m : ℕ) (ipd opd : Record) (n : ℕ) → Lawful (phases on m ipd opd n)
 unfolding phases phasesOf
 phases-lawful on m ipd opd n = search (lawful, one-lawful) depth 8
 
@@ -63,7 +63,7 @@ flag-lawful : (m : ℕ) → Lawful (phaseFlag m)
 unfolding phaseFlag
 flag-lawful m = search lawful depth 8
 
-v0-lawful : (m : ℕ) (ipd opd : Held) (n : ℕ) → Lawful (v0 m ipd opd n)
+v0-lawful : (m : ℕ) (ipd opd : Record) (n : ℕ) → Lawful (v0 m ipd opd n)
 unfolding v0
 v0-lawful m ipd opd n = search (lawful, flag-lawful, phases-lawful) depth 12
 
@@ -71,13 +71,13 @@ another-filling : Filling another
 unfolding another refuseAt
 another-filling = then-filling here _ here-lawful λ place. then-filling (field 2) _ (field-lawful 2) λ id. refusing-filling (pick (eqb id 0) 33 13) (λ at. place)
 
-pub part-filling : (m : ℕ) (ipd opd : Held) (n : ℕ) → Filling (part m ipd opd n)
+pub part-filling : (m : ℕ) (ipd opd : Record) (n : ℕ) → Filling (part m ipd opd n)
 unfolding part
 part-filling m ipd opd n =
     then-filling (v0 m ipd opd n) _ (v0-lawful m ipd opd n) λ b.
     filling-then (leftOver 7 another) _ (leftOver-filling 7 another another-filling) λ x. give-lawful _
 
-announced-lawful : (m : ℕ) (ipd opd : Held) (n size : ℕ) → Lawful (announced m ipd opd n size)
+announced-lawful : (m : ℕ) (ipd opd : Record) (n size : ℕ) → Lawful (announced m ipd opd n size)
 unfolding announced
 announced-lawful m ipd opd n size = pick-lawful (eqb size 0) (give-lawful _) (inside-lawful (8 * size) 33 (part m ipd opd n) (part-filling m ipd opd n))
 
@@ -85,7 +85,7 @@ esc-lawful : (size : ℕ) → Lawful (escCount size)
 unfolding escCount
 esc-lawful size = search lawful depth 8
 
-extension-lawful : (on : Bool) (m : ℕ) (ipd opd : Held) (n : ℕ) → Lawful (extension on m ipd opd n)
+extension-lawful : (on : Bool) (m : ℕ) (ipd opd : Record) (n : ℕ) → Lawful (extension on m ipd opd n)
 unfolding extension extensionSent
 extension-lawful on m ipd opd n = search (lawful, esc-lawful, announced-lawful) depth 12
 

@@ -15,14 +15,14 @@ use Rattle.bits.specs.Payload.{ended, whole}
 use Rattle.bits.specs.Field.{field}
 use Rattle.bits.proofs.Taken.{field-below}
 use Rattle.bits.proofs.Lawful.{split, same-value}
-use Rattle.differences.specs.Kind.{bands}
-use Rattle.differences.specs.Difference.{differenceTable, difference}
-use Rattle.differences.specs.Indices.{indexFrom, index, indices}
-use Rattle.differences.specs.Rows.{row, rowsOf, rows}
-use Rattle.differences.specs.declared.Kind.{Kind}
-use Rattle.differences.specs.declared.Kind.the-variants.{Iid, Icc}
-use Rattle.differences.specs.declared.Held.{Held}
-use Rattle.differences.proofs.KindLaws.{bands-le, table-below}
+use Rattle.stereo_indices.specs.Kind.{bands}
+use Rattle.stereo_indices.specs.Difference.{differenceTable, difference}
+use Rattle.stereo_indices.specs.Indices.{indexFrom, index, indices}
+use Rattle.stereo_indices.specs.Rows.{row, rowsOf, rows}
+use Rattle.stereo_indices.specs.declared.Kind.{Kind}
+use Rattle.stereo_indices.specs.declared.Kind.the-variants.{Iid, Icc}
+use Rattle.stereo_indices.specs.declared.Record.{Record}
+use Rattle.stereo_indices.proofs.KindLaws.{bands-le, table-below}
 use Rattle.stereo.specs.Header.{mode, headerFields, header, setupAfter}
 use Rattle.stereo.specs.Frame.{envelopeCount, bordersOf, borders, frame}
 use Rattle.stereo.specs.Extension.{part, announced, escCount, extensionSent, extension}
@@ -40,13 +40,13 @@ index-near : (k : Kind) (m t : ℕ) (before xs : List ℤ) → Near 20 (index k 
 unfolding index indexFrom difference
 index-near k m t before xs = bind-near 20 0 _ _ (expecting-near 32 _ 20 _ (word-near (differenceTable k m t) (table-below k m t))) λ e. give-near 0 _
 
-row-near : (k : Kind) (m : ℕ) (h : Held) → Near 681 (row k m h)
+row-near : (k : Kind) (m : ℕ) (h : Record) → Near 681 (row k m h)
 unfolding row indices
 row-near k m h =
     bind-near 1 680 _ _ (expecting-near 31 _ 1 _ (field-near 1)) λ t.
     bind-near 680 0 _ _ (bind-near 680 0 _ _ (listed-near 20 _ (index-near k m t (h .indices)) (bands k m) 34 (bands-le k m)) λ xs. give-near 0 _) λ xs. give-near 0 _
 
-rows-near : (k : Kind) (on : Bool) (m : ℕ) (h : Held) (n : ℕ) → n ≤ 4 → Near 2724 (rows k on m h n)
+rows-near : (k : Kind) (on : Bool) (m : ℕ) (h : Record) (n : ℕ) → n ≤ 4 → Near 2724 (rows k on m h n)
 unfolding rows rowsOf
 rows-near k on m h n l = pick-near on (bind-near 2724 0 _ _ (listed-near 681 _ (λ rs. row-near k m _) n 4 l) λ rs. give-near 0 _) (give-near 2724 _)
 
@@ -94,7 +94,7 @@ esc-near : (z : ℕ) → Near 8 (escCount z)
 unfolding escCount
 esc-near z = pick-near (eqb z 15) (field-near 8) (give-near 8 0)
 
-extension-near : (on : Bool) (m : ℕ) (ipd opd : Held) (n : ℕ) → Near 2172 (extension on m ipd opd n)
+extension-near : (on : Bool) (m : ℕ) (ipd opd : Record) (n : ℕ) → Near 2172 (extension on m ipd opd n)
 unfolding extension extensionSent announced
 extension-near on m ipd opd n =
     pick-near on (known-near 4 2168 (field 4) _ (λ z. z < 16) (field-near 4) (λ s at end next z e. field-below 4 s at end z next e) λ z l.

@@ -8,8 +8,8 @@ use mathlib.Core.List.{List}
 use lib.ListN.{length, take}
 use Rattle.bits.specs.Reader.{got}
 use Rattle.bits.specs.Payload.{inBuffer, range, whole}
-use Rattle.differences.specs.Held.{zeros, none, soundIndex, soundFrom, soundHeld}
-use Rattle.differences.specs.Kind.{within}
+use Rattle.stereo_indices.specs.Record.{zeros, none, soundIndex, soundFrom, soundRecord}
+use Rattle.stereo_indices.specs.Kind.{within}
 use Rattle.stereo.specs.State.{freshSetup, fresh, soundSetup, sound, lost}
 use Rattle.stereo.specs.Payload.{payload}
 use Rattle.stereo.specs.Stereo.{from, refusal, readBytes, readFrom, missing}
@@ -31,7 +31,7 @@ read-cut st s next c k e h = rw (payload-cut (from st) s next c k e h .1)
 
 -- the fresh state is sound, and so is what is lost of a sound one
 pub fresh-sound : sound fresh ≡ true
-unfolding sound fresh freshSetup soundSetup soundHeld soundFrom soundIndex none zeros within
+unfolding sound fresh freshSetup soundSetup soundRecord soundFrom soundIndex none zeros within
 fresh-sound = refl
 
 pub lost-sound : (st : State) → sound (lost st) ≡ sound st

@@ -6,10 +6,10 @@ use lib.Dec.{eqb}
 use lib.IntN.{ℤ}
 use lib.ListN.{getD}
 use Rattle.bits.specs.Reader.{pick}
-use Rattle.differences.specs.Held.{held, none}
-use Rattle.differences.specs.Rows.{noRow}
-use Rattle.differences.specs.declared.Held.{Held}
-use Rattle.differences.specs.declared.Row.{Row}
+use Rattle.stereo_indices.specs.Record.{recordOf, none}
+use Rattle.stereo_indices.specs.Rows.{noRow}
+use Rattle.stereo_indices.specs.declared.Record.{Record}
+use Rattle.stereo_indices.specs.declared.Row.{Row}
 use Rattle.stereo.specs.Header.{setupAfter}
 use Rattle.stereo.specs.Extension.{noPhases}
 use Rattle.stereo.specs.declared.Setup.{Setup}
@@ -20,8 +20,8 @@ use Rattle.stereo.specs.declared.PhaseRecords.{PhaseRecords}
 use Rattle.stereo.specs.declared.Contents.{Contents}
 
 -- a kind's record: not enabled, none; with no envelopes, it stays; else the last envelope's indices
-unfoldable pub recordAfter : Bool → ℕ → Held → ℕ → List ℤ → Held
-recordAfter on mode h n xs = pick on (pick (eqb n 0) h (held mode xs)) none
+unfoldable pub recordAfter : Bool → ℕ → Record → ℕ → List ℤ → Record
+recordAfter on mode h n xs = pick on (pick (eqb n 0) h (recordOf mode xs)) none
 
 -- the indices of the last of n envelopes
 abbrev pub lastRow : ℕ → List Row → List ℤ

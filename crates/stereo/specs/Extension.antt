@@ -4,16 +4,16 @@ use mathlib.Core.List.{List, [], _∷_}
 use mathlib.Core.Bool.{Bool, _||_}
 use lib.Dec.{eqb}
 use lib.ListN.{replicate}
-use Rattle.bits.specs.Reader.{Reader, give, _>>=_, pick, expecting}
+use Rattle.bits.specs.Reader.{Reader, give, pick, expecting, _>>=_}
 use Rattle.bits.specs.Field.{field, zeroBit}
 use Rattle.bits.specs.Loop.{listed}
 use Rattle.bits.specs.Places.{here, refuseAt}
 use Rattle.bits.specs.Inside.{inside, Fill, leftOver}
-use Rattle.differences.specs.Indices.{padded}
-use Rattle.differences.specs.Rows.{noRow, heldAfter, row}
-use Rattle.differences.specs.declared.Kind.the-variants.{Ipd, Opd}
-use Rattle.differences.specs.declared.Held.{Held}
-use Rattle.differences.specs.declared.Row.{Row}
+use Rattle.stereo_indices.specs.Indices.{padded}
+use Rattle.stereo_indices.specs.Rows.{noRow, recordAfterRows, row}
+use Rattle.stereo_indices.specs.declared.Kind.the-variants.{Ipd, Opd}
+use Rattle.stereo_indices.specs.declared.Record.{Record}
+use Rattle.stereo_indices.specs.declared.Row.{Row}
 use Rattle.stereo.specs.State.{isSent}
 use Rattle.stereo.specs.declared.Phases.{Phases}
 use Rattle.stereo.specs.declared.Body.{Body}
@@ -43,24 +43,24 @@ opds [] = []
 opds (p ∷ ps) = p .opd ∷ opds ps
 
 -- the phases of one envelope, after two records
-unfoldable pub phasesIn : ℕ → Held → Held → Reader Phases
+unfoldable pub phasesIn : ℕ → Record → Record → Reader Phases
 phasesIn mode ipd opd = do
   a ← row Ipd mode ipd
   b ← row Opd mode opd
   give (record { ipd = a; opd = b })
 
 -- the phases of the next envelope
-abbrev pub phasesNext : ℕ → Held → Held → List Phases → Reader Phases
-phasesNext mode ipd opd ps = phasesIn mode (heldAfter ipd mode (ipds ps)) (heldAfter opd mode (opds ps))
+abbrev pub phasesNext : ℕ → Record → Record → List Phases → Reader Phases
+phasesNext mode ipd opd ps = phasesIn mode (recordAfterRows ipd mode (ipds ps)) (recordAfterRows opd mode (opds ps))
 
 -- the phases of n envelopes
-unfoldable pub phasesOf : ℕ → Held → Held → ℕ → Reader (List Phases)
+unfoldable pub phasesOf : ℕ → Record → Record → ℕ → Reader (List Phases)
 phasesOf mode ipd opd n = do
   ps ← listed n (phasesNext mode ipd opd)
   give (padded 4 noPhases ps)
 
 -- where enable_ipdopd is 0 there are none
-unfoldable pub phases : ℕ → ℕ → Held → Held → ℕ → Reader (List Phases)
+unfoldable pub phases : ℕ → ℕ → Record → Record → ℕ → Reader (List Phases)
 phases on mode ipd opd n = pick (eqb on 1) (phasesOf mode ipd opd n) (give (replicate 4 noPhases))
 
 -- enable_ipdopd at 1 asks for an IID mode
@@ -74,7 +74,7 @@ phaseFlag mode = do
   expecting 34 (hasMode mode) (field 1)
 
 -- the flag, the phases in the IID mode in force, and reserved_ps
-unfoldable pub v0 : ℕ → Held → Held → ℕ → Reader Body
+unfoldable pub v0 : ℕ → Record → Record → ℕ → Reader Body
 v0 mode ipd opd n = do
   phase ← phaseFlag mode
   ps ← phases phase mode ipd opd n
@@ -89,14 +89,14 @@ another = do
   refuseAt (pick (eqb id 0) 33 13) place
 
 -- v0, and up to 7 fill bits
-unfoldable pub part : ℕ → Held → Held → ℕ → Reader Part
+unfoldable pub part : ℕ → Record → Record → ℕ → Reader Part
 part mode ipd opd n = do
   b ← v0 mode ipd opd n
   fill ← leftOver 7 another
   give (record { body = b; count = fill .count; value = fill .value })
 
 -- an announced size of 0 holds no v0
-unfoldable pub announced : ℕ → Held → Held → ℕ → ℕ → Reader Part
+unfoldable pub announced : ℕ → Record → Record → ℕ → ℕ → Reader Part
 announced mode ipd opd n size = pick (eqb size 0) (give noPart) (inside (8 * size) 33 (part mode ipd opd n))
 
 -- esc_count follows a size of 15
@@ -104,12 +104,12 @@ unfoldable pub escCount : ℕ → Reader ℕ
 escCount size = pick (eqb size 15) (field 8) (give 0)
 
 -- the size, esc_count, and the part that they announce
-unfoldable pub extensionSent : ℕ → Held → Held → ℕ → Reader Extension
+unfoldable pub extensionSent : ℕ → Record → Record → ℕ → Reader Extension
 extensionSent mode ipd opd n = do
   size ← field 4
   esc ← escCount size
   p ← announced mode ipd opd n (size + esc)
   give (record { there = 1; size = size; esc = esc; part = p })
 
-unfoldable pub extension : Bool → ℕ → Held → Held → ℕ → Reader Extension
+unfoldable pub extension : Bool → ℕ → Record → Record → ℕ → Reader Extension
 extension on mode ipd opd n = pick on (extensionSent mode ipd opd n) (give noExtension)

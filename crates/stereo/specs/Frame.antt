@@ -3,10 +3,10 @@ use Prim.Native.Nat.{ℕ, _+_}
 use mathlib.Core.List.{List}
 use lib.Dec.{eqb}
 use lib.ListN.{replicate}
-use Rattle.bits.specs.Reader.{Reader, give, _>>=_, pick}
+use Rattle.bits.specs.Reader.{Reader, give, pick, _>>=_}
 use Rattle.bits.specs.Field.{field}
 use Rattle.bits.specs.Loop.{listed}
-use Rattle.differences.specs.Indices.{padded}
+use Rattle.stereo_indices.specs.Indices.{padded}
 use Rattle.stereo.specs.declared.Frame.{Frame}
 
 -- table 8.7: 0, 1, 2 or 4 envelopes; with variable borders 1, 2, 3 or 4

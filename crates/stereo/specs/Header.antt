@@ -2,7 +2,7 @@
 use Prim.Native.Nat.{ℕ}
 use mathlib.Core.Bool.{Bool}
 use lib.Dec.{eqb, leb}
-use Rattle.bits.specs.Reader.{Reader, give, _>>=_, pick, expecting}
+use Rattle.bits.specs.Reader.{Reader, give, pick, expecting, _>>=_}
 use Rattle.bits.specs.Field.{field}
 use Rattle.stereo.specs.declared.Setup.{Setup}
 use Rattle.stereo.specs.declared.Header.{Header}

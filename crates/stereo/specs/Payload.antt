@@ -1,7 +1,7 @@
 -- A payload's contents, as they are read from a state: 12 and 35 apart.
 use Rattle.bits.specs.Reader.{Reader, give, _>>=_}
-use Rattle.differences.specs.Rows.{noRows, rows}
-use Rattle.differences.specs.declared.Kind.the-variants.{Iid, Icc}
+use Rattle.stereo_indices.specs.Rows.{noRows, rows}
+use Rattle.stereo_indices.specs.declared.Kind.the-variants.{Iid, Icc}
 use Rattle.stereo.specs.Header.{noHeader, header, setupAfter}
 use Rattle.stereo.specs.Frame.{noFrame, frame}
 use Rattle.stereo.specs.Extension.{noExtension, extension}

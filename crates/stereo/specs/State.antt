@@ -1,8 +1,8 @@
 -- The state that is carried from payload to payload.
 use Prim.Native.Nat.{ℕ}
 use mathlib.Core.Bool.{Bool, true, false, not, _&&_, _||_}
-use Rattle.differences.specs.Held.{isNone, none, soundMode, soundHeld}
-use Rattle.differences.specs.declared.Kind.the-variants.{Iid, Icc, Ipd, Opd}
+use Rattle.stereo_indices.specs.Record.{isNone, none, soundMode, soundRecord}
+use Rattle.stereo_indices.specs.declared.Kind.the-variants.{Iid, Icc, Ipd, Opd}
 use Rattle.stereo.specs.declared.Setup.{Setup}
 use Rattle.stereo.specs.declared.State.{State}
 
@@ -25,7 +25,7 @@ soundSetup f =
 
 -- and every index in range with zeros above the count
 unfoldable pub sound : State → Bool
-sound st = soundSetup (st .setup) && soundHeld Iid (st .iid) && soundHeld Icc (st .icc) && soundHeld Ipd (st .ipd) && soundHeld Opd (st .opd)
+sound st = soundSetup (st .setup) && soundRecord Iid (st .iid) && soundRecord Icc (st .icc) && soundRecord Ipd (st .ipd) && soundRecord Opd (st .opd)
 
 -- out of step, and nothing else touched
 abbrev pub lost : State → State

@@ -6,8 +6,8 @@ use lib.Dec.{eqb, leb}
 use lib.ListN.{length, getD}
 use Rattle.bits.specs.Reader.{Answer, got, refused, pick}
 use Rattle.bits.specs.Payload.{inBuffer, range, whole}
-use Rattle.differences.specs.Rows.{noRow}
-use Rattle.differences.specs.declared.Row.{Row}
+use Rattle.stereo_indices.specs.Rows.{noRow}
+use Rattle.stereo_indices.specs.declared.Row.{Row}
 use Rattle.stereo.specs.State.{fresh, sound, lost}
 use Rattle.stereo.specs.Extension.{noPhases}
 use Rattle.stereo.specs.Payload.{noContents, payload}
@@ -45,13 +45,13 @@ unfoldable pub taken : State → Contents → ℕ → Reading
 taken st c bits = pick (st .instep || restart c) (record { number = 0; bits = bits; contents = c; state = carried (from st) c }) (refusal 35 (lost st))
 
 -- a refusal from the payload's bits on touches only the mark
-abbrev pub judged : State → Answer Contents → Reading
-judged st (got c bits) = taken st c bits
-judged st (refused n place) = refusal n (lost st)
+abbrev pub readingOf : State → Answer Contents → Reading
+readingOf st (got c bits) = taken st c bits
+readingOf st (refused n place) = refusal n (lost st)
 
 -- a payload's bytes
 unfoldable pub readBytes : State → List ℕ → Reading
-readBytes st bytes = judged st (whole (payload (from st)) bytes)
+readBytes st bytes = readingOf st (whole (payload (from st)) bytes)
 
 -- a range of a buffer: 1, then 4, then the payload's own
 unfoldable pub readFrom : State → List ℕ → ℕ → ℕ → Reading

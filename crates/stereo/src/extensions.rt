@@ -8,7 +8,7 @@ ghost use Rattle.bits.specs.Bits.{bitsFrom};
 ghost use Rattle.bits.specs.Field.{zeroBit};
 ghost use Rattle.bits.specs.Answers.{fieldAnswer, endedAnswer, passedOn};
 ghost use Rattle.tables.specs.Tables.{Tables};
-ghost use Rattle.differences.specs.Held.{held};
+ghost use Rattle.stereo_indices.specs.Record.{recordOf};
 ghost use Rattle.stereo.specs.Extension.{noPhases, noBody, noPart, noExtension, phasesIn, phasesOf, phases, hasMode, phaseFlag, v0, part, announced, escCount, extensionSent, extension};
 ghost use Rattle.stereo.specs.Answers.{endedInside};
 use crate::Body;
@@ -23,9 +23,9 @@ use crate::ReadPart;
 use crate::ReadPhases;
 use bits::Ended;
 use bits::Field;
-use differences::Held;
-use differences::Kind;
-use differences::rows;
+use stereo_indices::Kind;
+use stereo_indices::Record;
+use stereo_indices::rows;
 
 // No phases of an envelope.
 pub fn no_phases() -> Phases
@@ -56,14 +56,14 @@ fn read_phases(
     requires { ⌜ (end ≤ 8 * length (now s)) × Tables (now codes) (now lens) ⌝ }
     ensures { λ r. ⌜ endedAnswer (r .ended) (r .phases) ≡ phasesIn mode (records .ipd) (records .opd) (now (s .entry)) at end ⌝ }
 {
-    let held = records.ipd;
-    let first = rows::read_row(s, at, end, Kind::Ipd, mode, held, codes, lens);
+    let rec = records.ipd;
+    let first = rows::read_row(s, at, end, Kind::Ipd, mode, rec, codes, lens);
     let ended = first.ended;
     let ipd = first.row;
     match ended {
         Ended::At(next) => {
-            let held = records.opd;
-            let second = rows::read_row(s, next, end, Kind::Opd, mode, held, codes, lens);
+            let rec = records.opd;
+            let second = rows::read_row(s, next, end, Kind::Opd, mode, rec, codes, lens);
             let ended = second.ended;
             let opd = second.row;
             let phases = Phases { ipd, opd };
@@ -78,14 +78,14 @@ fn read_phases(
 
 // The records that the phases of an envelope leave.
 fn left_by(mode: u32, phases: Phases) -> PhaseRecords
-    ensures { λ r. ⌜ r ≡ record { ipd = held mode (phases .ipd .indices); opd = held mode (phases .opd .indices) } ⌝ }
+    ensures { λ r. ⌜ r ≡ record { ipd = recordOf mode (phases .ipd .indices); opd = recordOf mode (phases .opd .indices) } ⌝ }
 {
     let ipd = phases.ipd;
     let indices = ipd.indices;
-    let ipd = Held { mode, indices };
+    let ipd = Record { mode, indices };
     let opd = phases.opd;
     let indices = opd.indices;
-    let opd = Held { mode, indices };
+    let opd = Record { mode, indices };
     PhaseRecords { ipd, opd }
 }
 

@@ -1,7 +1,7 @@
 // The stereo state, and the reading of one parametric stereo payload.
 use bits::Ended;
-use differences::Held;
-use differences::Row;
+use stereo_indices::Record;
+use stereo_indices::Row;
 
 pub mod extensions;
 pub mod frames;
@@ -22,10 +22,10 @@ pub struct Setup {
 // What is carried from payload to payload: the set-up, a record for each kind, and the in-step mark.
 pub struct State {
     pub setup: Setup,
-    pub iid: Held,
-    pub icc: Held,
-    pub ipd: Held,
-    pub opd: Held,
+    pub iid: Record,
+    pub icc: Record,
+    pub ipd: Record,
+    pub opd: Record,
     pub instep: bool,
 }
 
@@ -54,8 +54,8 @@ pub struct Phases {
 
 // The records of the two phases.
 pub struct PhaseRecords {
-    pub ipd: Held,
-    pub opd: Held,
+    pub ipd: Record,
+    pub opd: Record,
 }
 
 // The extension's v0: enable_ipdopd, and the phases of four envelopes, zeros where there are none.

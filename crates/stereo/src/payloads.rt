@@ -4,8 +4,8 @@ ghost use Prim.Native.Nat.{_*_, _≤_};
 ghost use lib.ListN.{length};
 ghost use Rattle.bits.specs.Answers.{endedAnswer};
 ghost use Rattle.tables.specs.Tables.{Tables};
-ghost use Rattle.differences.specs.Rows.{rows};
-ghost use Rattle.differences.specs.declared.Kind.the-variants.{Iid, Icc};
+ghost use Rattle.stereo_indices.specs.Rows.{rows};
+ghost use Rattle.stereo_indices.specs.declared.Kind.the-variants.{Iid, Icc};
 ghost use Rattle.stereo.specs.Extension.{extension};
 ghost use Rattle.stereo.specs.Payload.{noContents, envelopes, payload};
 use crate::Contents;
@@ -20,9 +20,9 @@ use crate::extensions;
 use crate::frames;
 use crate::headers;
 use bits::Ended;
-use differences::Kind;
-use differences::ReadRows;
-use differences::rows;
+use stereo_indices::Kind;
+use stereo_indices::ReadRows;
+use stereo_indices::rows;
 
 // No contents.
 pub fn no_contents() -> Contents
@@ -74,8 +74,8 @@ fn read_levels(
 {
     let on = setup.iid;
     let mode = setup.iidmode;
-    let held = state.iid;
-    rows::read_kind(s, at, end, Kind::Iid, on, mode, held, n, codes, lens)
+    let rec = state.iid;
+    rows::read_kind(s, at, end, Kind::Iid, on, mode, rec, n, codes, lens)
 }
 
 // The ICC rows of n envelopes.
@@ -94,8 +94,8 @@ fn read_coherences(
 {
     let on = setup.icc;
     let mode = setup.iccmode;
-    let held = state.icc;
-    rows::read_kind(s, at, end, Kind::Icc, on, mode, held, n, codes, lens)
+    let rec = state.icc;
+    rows::read_kind(s, at, end, Kind::Icc, on, mode, rec, n, codes, lens)
 }
 
 // The extension of a payload of n envelopes.

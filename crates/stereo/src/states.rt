@@ -4,8 +4,8 @@ ghost use mathlib.Core.Bool.{not, _||_};
 ghost use Rattle.stereo.specs.State.{isSent, freshSetup, fresh, soundSetup, sound, lost};
 use crate::Setup;
 use crate::State;
-use differences::Kind;
-use differences::records;
+use stereo_indices::Kind;
+use stereo_indices::records;
 
 // The state before any payload.
 pub fn fresh() -> State

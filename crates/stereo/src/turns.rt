@@ -3,7 +3,7 @@ ghost use mathlib.Core.Path.{_≡_};
 ghost use Prim.Native.Nat.{_-_};
 ghost use lib.Dec.{eqb};
 ghost use lib.ListN.{getD};
-ghost use Rattle.differences.specs.Rows.{noRow};
+ghost use Rattle.stereo_indices.specs.Rows.{noRow};
 ghost use Rattle.stereo.specs.Extension.{noPhases};
 ghost use Rattle.stereo.specs.Carried.{recordAfter, lastRow, lastPhases, phaseRecords, carried};
 ghost use Rattle.stereo.specs.Stereo.{across, phasesAcross, restart};
@@ -15,10 +15,10 @@ use crate::Setup;
 use crate::State;
 use crate::extensions;
 use crate::headers;
-use differences::Held;
-use differences::Row;
-use differences::records;
-use differences::rows;
+use stereo_indices::Record;
+use stereo_indices::Row;
+use stereo_indices::records;
+use stereo_indices::rows;
 
 // The row of an envelope; there are four.
 fn row_at(rows: [Row; 4], i: usize) -> Row
@@ -98,16 +98,16 @@ pub fn is_restart(contents: Contents) -> bool
 }
 
 // A kind's record after a payload of n envelopes, of which these are the last one's indices.
-fn record_after(on: bool, mode: u32, held: Held, n: usize, indices: [i8; 34]) -> Held
-    ensures { λ r. ⌜ r ≡ recordAfter on mode held n indices ⌝ }
+fn record_after(on: bool, mode: u32, rec: Record, n: usize, indices: [i8; 34]) -> Record
+    ensures { λ r. ⌜ r ≡ recordAfter on mode rec n indices ⌝ }
 {
     if !on {
         return records::none();
     }
     if n == 0 {
-        return held;
+        return rec;
     }
-    Held { mode, indices }
+    Record { mode, indices }
 }
 
 // The indices of the last of n envelopes; with none, those of an empty row.
@@ -144,12 +144,12 @@ fn phases_after(setup: Setup, state: State, n: usize, body: Body) -> PhaseRecord
     let last = last_phases(n, phases);
     let row = last.ipd;
     let indices = row.indices;
-    let held = state.ipd;
-    let ipd = record_after(on, setup.iidmode, held, n, indices);
+    let rec = state.ipd;
+    let ipd = record_after(on, setup.iidmode, rec, n, indices);
     let row = last.opd;
     let indices = row.indices;
-    let held = state.opd;
-    let opd = record_after(on, setup.iidmode, held, n, indices);
+    let rec = state.opd;
+    let opd = record_after(on, setup.iidmode, rec, n, indices);
     PhaseRecords { ipd, opd }
 }
 
@@ -163,11 +163,11 @@ pub fn carried(state: State, contents: Contents) -> State
     let frame = contents.frame;
     let n = frame.envelopes;
     let rows = contents.iid;
-    let held = state.iid;
-    let iid = record_after(setup.iid, setup.iidmode, held, n, last_row(n, rows));
+    let rec = state.iid;
+    let iid = record_after(setup.iid, setup.iidmode, rec, n, last_row(n, rows));
     let rows = contents.icc;
-    let held = state.icc;
-    let icc = record_after(setup.icc, setup.iccmode, held, n, last_row(n, rows));
+    let rec = state.icc;
+    let icc = record_after(setup.icc, setup.iccmode, rec, n, last_row(n, rows));
     let extension = contents.extension;
     let part = extension.part;
     let body = part.body;

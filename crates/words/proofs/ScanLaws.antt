@@ -16,18 +16,18 @@ use Rattle.bits.specs.Reader.{got, refused, pick}
 use Rattle.bits.proofs.BitLaws.{bitsFrom-prefix}
 use Rattle.bits.proofs.Bools.{and-both}
 use Rattle.words.specs.Words.{fits, cutOff, scan}
-use Rattle.words.specs.Judge.{judged}
-use Rattle.words.specs.declared.Judged.{Judged}
-use Rattle.words.specs.declared.Judged.the-variants.{Fits, Cut, Neither}
+use Rattle.words.specs.Comparison.{compared}
+use Rattle.words.specs.declared.Comparison.{Comparison}
+use Rattle.words.specs.declared.Comparison.the-variants.{Fits, Cut, Neither}
 
 -- what a word is to a window of the bits is what it is to the bits up to the end
-abbrev pub tells : Bool → Bool → Judged
+abbrev pub tells : Bool → Bool → Comparison
 tells f k = pick f Fits (pick k Cut Neither)
 
-pub judged-is : (s : List ℕ) (at end c l : ℕ) → l ≤ 20
-    → judged (bitsFrom s at (min 20 (end - at))) (min 20 (end - at)) c l ≡ tells (fits c l s at end) (cutOff c l s at end)
+pub compared-is : (s : List ℕ) (at end c l : ℕ) → l ≤ 20
+    → compared (bitsFrom s at (min 20 (end - at))) (min 20 (end - at)) c l ≡ tells (fits c l s at end) (cutOff c l s at end)
 unfolding fits cutOff
-judged-is s at end c l h =
+compared-is s at end c l h =
     let m = min 20 (end - at) in
     elim (decLe l m) [
       | yes d ↦ simp (le-leb _ _ d, le-leb l (end - at) (omega arith), le-ltb (end - at) l (omega arith), bitsFrom-prefix s at l m d)
@@ -92,9 +92,9 @@ fits-left c l s at end e = leb-true _ _ (and-both (leb l (end - at)) (eqb (bitsF
 -- one turn of the code's loop: the window is of the bits at the place, and the word at i was judged
 module _ (codes lens s : List ℕ) (at end i : ℕ) (short : Bool) (hc : i < length codes) (hl : i < length lens)
     (narrow : getD lens i 0 ≤ 20) {m v : ℕ} (em : m ≡ min 20 (end - at)) (ev : v ≡ bitsFrom s at m)
-    {r : Judged} (er : r ≡ judged v m (getD codes i 0) (getD lens i 0)) where
+    {r : Comparison} (er : r ≡ compared v m (getD codes i 0) (getD lens i 0)) where
   told : r ≡ tells (fits (getD codes i 0) (getD lens i 0) s at end) (cutOff (getD codes i 0) (getD lens i 0) s at end)
-  told = er ∙ simp (ev, em) (judged-is s at end (getD codes i 0) (getD lens i 0) narrow)
+  told = er ∙ simp (ev, em) (compared-is s at end (getD codes i 0) (getD lens i 0) narrow)
 
   pub turn-found : r ≡ Fits → (got i (at + getD lens i 0) ≡ scan (drop i codes) (drop i lens) i short s at end) × (getD lens i 0 ≤ end - at)
   turn-found e =

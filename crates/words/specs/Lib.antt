@@ -1,5 +1,5 @@
 pub mod Words
 pub mod Table
 pub mod Asked
-pub mod Judge
+pub mod Comparison
 pub mod Escape

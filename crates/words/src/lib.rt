@@ -4,7 +4,7 @@ ghost use Prim.Native.Nat.{_*_, _≤_, _-_, min};
 ghost use lib.ListN.{length};
 ghost use Rattle.bits.specs.Bits.{bitsFrom};
 ghost use Rattle.bits.specs.Answers.{fieldAnswer};
-ghost use Rattle.words.specs.Judge.{judged};
+ghost use Rattle.words.specs.Comparison.{compared};
 ghost use Rattle.words.specs.Words.{word};
 ghost use Rattle.words.specs.Asked.{Usable};
 use bits::Field;
@@ -12,7 +12,7 @@ use bits::Field;
 pub mod escape;
 
 // What a word is to the first bits at a place: it is their prefix, they are its proper prefix, or neither.
-enum Judged {
+enum Comparison {
     Fits,
     Cut,
     Neither,
@@ -45,22 +45,22 @@ fn first_bits(s: &[u8], at: usize, end: usize) -> Window
 }
 
 // A word of l bits, held to the first bits.
-fn judge(w: Window, c: u32, l: u8) -> Judged
+fn compare(w: Window, c: u32, l: u8) -> Comparison
     requires { ⌜ (w .count ≤ 20) × (l ≤ 20) ⌝ }
-    ensures { λ r. ⌜ r ≡ judged (w .value) (w .count) c l ⌝ }
+    ensures { λ r. ⌜ r ≡ compared (w .value) (w .count) c l ⌝ }
 {
     let m = w.count;
     let l = l as usize;
     if l <= m {
         if w.value >> (m - l) == c {
-            return Judged::Fits;
+            return Comparison::Fits;
         }
-        return Judged::Neither;
+        return Comparison::Neither;
     }
     if w.value == c >> (l - m) {
-        return Judged::Cut;
+        return Comparison::Cut;
     }
-    Judged::Neither
+    Comparison::Neither
 }
 
 // The entry whose word stands at a place; 10 where the bits up to the end are the start of some word, 11 where they are of none.
@@ -72,12 +72,12 @@ pub fn read_word(s: &[u8], at: usize, end: usize, codes: &[u32], lens: &[u8]) ->
     let mut short = false;
     let mut i = 0;
     while i < lens.len() {
-        match judge(w, codes[i], lens[i]) {
-            Judged::Fits => return Field::Got(i as u32, at + lens[i] as usize),
-            Judged::Cut => {
+        match compare(w, codes[i], lens[i]) {
+            Comparison::Fits => return Field::Got(i as u32, at + lens[i] as usize),
+            Comparison::Cut => {
                 short = true;
             }
-            Judged::Neither => {}
+            Comparison::Neither => {}
         }
         i += 1;
     }

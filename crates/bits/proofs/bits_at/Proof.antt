@@ -5,9 +5,6 @@ use Rattle.bits.proofs.FourBytes.{word-run, one-shl}
 use borrow.Author.Needs.{needs}
 use Rattle.bits.proofs.bits_at.Statement.{statement}
 use Rattle.bits.proofs.bits_at.Tie as tie
-use Rattle.bits.proofs.bits_at.Reads as reads
-use Rattle.bits.proofs.bits_at.Lts as lts
-use Rattle.bits.proofs.byte.Reads as byte-reads
 
 byte-requires : tie.Need-byte-requires
 byte-requires c κs = search needs

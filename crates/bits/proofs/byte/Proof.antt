@@ -4,8 +4,6 @@ use mathlib.Core.Path.{refl, sym}
 use borrow.Author.Needs.{needs}
 use Rattle.bits.proofs.byte.Statement.{statement}
 use Rattle.bits.proofs.byte.Tie as tie
-use Rattle.bits.proofs.byte.Reads as reads
-use Rattle.bits.proofs.byte.Lts as lts
 
 shared-slice-read-result : tie.Need-shared-slice-read-result
 shared-slice-read-result c = search needs

@@ -3,8 +3,6 @@ use mathlib.Core.Path.{sym, ap}
 use borrow.Author.Needs.{needs}
 use Rattle.bits.proofs.passed_on.Statement.{statement}
 use Rattle.bits.proofs.passed_on.Tie as tie
-use Rattle.bits.proofs.passed_on.Reads as reads
-use Rattle.bits.proofs.passed_on.Lts as lts
 
 enum-known-f : tie.Need-enum-known-f
 enum-known-f c = search needs

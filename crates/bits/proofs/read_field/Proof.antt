@@ -3,9 +3,6 @@ use Rattle.bits.proofs.FieldLaws.{is-field, is-short}
 use borrow.Author.Needs.{needs}
 use Rattle.bits.proofs.read_field.Statement.{statement}
 use Rattle.bits.proofs.read_field.Tie as tie
-use Rattle.bits.proofs.read_field.Reads as reads
-use Rattle.bits.proofs.read_field.Lts as lts
-use Rattle.bits.proofs.bits_at.Reads as bits-at-reads
 
 returns : tie.Need-returns
 returns c = is-short _ _ _ _ (omega arith)

@@ -1,9 +1,6 @@
 use borrow.Author.Needs.{needs}
 use Rattle.channel.proofs.answer.Statement.{statement}
 use Rattle.channel.proofs.answer.Tie as tie
-use Rattle.channel.proofs.answer.Reads as reads
-use Rattle.channel.proofs.answer.Lts as lts
-use Rattle.spectrum.proofs.grouping.groups_of.Reads as groups-of-reads
 
 groups-of-requires : tie.Need-groups-of-requires
 groups-of-requires c κs = search needs

@@ -7,8 +7,6 @@ use lib.Seq.{take-all}
 use Rattle.bits.proofs.Copied.{copied, copied-more}
 use Rattle.channel.proofs.copy_bands.Statement.{statement}
 use Rattle.channel.proofs.copy_bands.Tie as tie
-use Rattle.channel.proofs.copy_bands.Reads as reads
-use Rattle.channel.proofs.copy_bands.Lts as lts
 
 abbrev Inv-loop : tie.InvT-loop
 Inv-loop out₀ bands i₀ out i = (i ≤ 120) × (length out ≡ length out₀) × (out ≡ copied bands out₀ i)

@@ -10,8 +10,6 @@ use mir.Syntax.{w16}
 use mir.ValLaws.{toZ-ofZ}
 use Rattle.channel.proofs.copy_lines.Statement.{statement}
 use Rattle.channel.proofs.copy_lines.Tie as tie
-use Rattle.channel.proofs.copy_lines.Reads as reads
-use Rattle.channel.proofs.copy_lines.Lts as lts
 
 abbrev Inv-loop : tie.InvT-loop
 Inv-loop out₀ lines i₀ out i = (i ≤ 1024) × (length out ≡ length out₀) × (out ≡ copied lines out₀ i)

@@ -2,13 +2,6 @@ use mathlib.Core.Path.{refl, _∙_}
 use borrow.Author.Needs.{needs}
 use Rattle.channel.proofs.read_slice.Statement.{statement}
 use Rattle.channel.proofs.read_slice.Tie as tie
-use Rattle.channel.proofs.read_slice.Reads as reads
-use Rattle.channel.proofs.read_slice.Lts as lts
-use Rattle.channel.proofs.answer.Reads as answer-reads
-use Rattle.channel.proofs.copy_bands.Reads as copy-bands-reads
-use Rattle.channel.proofs.copy_lines.Reads as copy-lines-reads
-use Rattle.channel.proofs.refused.Reads as refused-reads
-use Rattle.channel.proofs.stream.read_payload.Reads as read-payload-reads
 
 read-payload-requires : tie.Need-read-payload-requires
 read-payload-requires c κs = search needs

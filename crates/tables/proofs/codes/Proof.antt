@@ -2,8 +2,6 @@ use mathlib.Core.Path.{refl}
 use Rattle.tables.specs.Words.{allCodes}
 use Rattle.tables.proofs.codes.Statement.{statement}
 use Rattle.tables.proofs.codes.Tie as tie
-use Rattle.tables.proofs.codes.Reads as reads
-use Rattle.tables.proofs.codes.Lts as lts
 
 returns : tie.Need-returns
 unfolding allCodes

@@ -3,8 +3,6 @@ use lib.ListN.{List·getD-eq-default}
 use borrow.Author.Needs.{needs}
 use Rattle.tables.proofs.element.Statement.{statement}
 use Rattle.tables.proofs.element.Tie as tie
-use Rattle.tables.proofs.element.Reads as reads
-use Rattle.tables.proofs.element.Lts as lts
 
 mul-result : tie.Need-mul-result
 mul-result c = search needs

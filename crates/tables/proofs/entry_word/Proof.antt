@@ -8,10 +8,6 @@ use Rattle.tables.proofs.PlaceLaws.{place-in, entry-is, no-entry}
 use borrow.Author.Needs.{needs}
 use Rattle.tables.proofs.entry_word.Statement.{statement}
 use Rattle.tables.proofs.entry_word.Tie as tie
-use Rattle.tables.proofs.entry_word.Reads as reads
-use Rattle.tables.proofs.entry_word.Lts as lts
-use Rattle.tables.proofs.count_of.Reads as count-of-reads
-use Rattle.tables.proofs.first_of.Reads as first-of-reads
 
 first-of-requires : tie.Need-first-of-requires
 first-of-requires c κs = search needs

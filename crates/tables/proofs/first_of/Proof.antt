@@ -5,9 +5,6 @@ use Rattle.tables.proofs.PlaceLaws.{each-at}
 use borrow.Author.Needs.{needs}
 use Rattle.tables.proofs.first_of.Statement.{statement}
 use Rattle.tables.proofs.first_of.Tie as tie
-use Rattle.tables.proofs.first_of.Reads as reads
-use Rattle.tables.proofs.first_of.Lts as lts
-use Rattle.tables.proofs.element.Reads as element-reads
 
 slice-aggregate-element : tie.Need-slice-aggregate-element
 slice-aggregate-element c = search needs

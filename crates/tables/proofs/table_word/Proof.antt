@@ -6,9 +6,6 @@ use Rattle.tables.proofs.RunLaws.{codes-count, lens-count, run-usable}
 use borrow.Author.Needs.{needs}
 use Rattle.tables.proofs.table_word.Statement.{statement}
 use Rattle.tables.proofs.table_word.Tie as tie
-use Rattle.tables.proofs.table_word.Reads as reads
-use Rattle.tables.proofs.table_word.Lts as lts
-use Rattle.words.proofs.read_word.Reads as read-word-reads
 
 add-last : tie.Need-add-last
 add-last c = search needs

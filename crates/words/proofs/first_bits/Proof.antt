@@ -2,9 +2,6 @@ use Rattle.bits.specs.Bits.{bitsFrom}
 use borrow.Author.Needs.{needs}
 use Rattle.words.proofs.first_bits.Statement.{statement}
 use Rattle.words.proofs.first_bits.Tie as tie
-use Rattle.words.proofs.first_bits.Reads as reads
-use Rattle.words.proofs.first_bits.Lts as lts
-use Rattle.bits.proofs.bits_at.Reads as bits-at-reads
 
 returns : tie.Need-returns
 unfolding bitsFrom

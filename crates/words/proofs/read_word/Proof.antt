@@ -8,10 +8,6 @@ use Rattle.words.specs.Words.{scan, word}
 use Rattle.words.proofs.ScanLaws.{scan-short, scan-none, turn-found, turn-cut, turn-neither}
 use Rattle.words.proofs.read_word.Statement.{statement}
 use Rattle.words.proofs.read_word.Tie as tie
-use Rattle.words.proofs.read_word.Reads as reads
-use Rattle.words.proofs.read_word.Lts as lts
-use Rattle.words.proofs.first_bits.Reads as first-bits-reads
-use Rattle.words.proofs.judge.Reads as judge-reads
 
 abbrev Inv-loop : tie.InvT-loop
 Inv-loop s at end codes lens w short₀ i₀ short i =
@@ -27,17 +23,17 @@ loop-holds : tie.Need-loop-holds Inv-loop μ-loop
 unfolding word
 loop-holds c = (search needs, refl)
 
-mul-judge : tie.Need-mul-judge Inv-loop μ-loop
-mul-judge c = search needs
+mul-compare : tie.Need-mul-compare Inv-loop μ-loop
+mul-compare c = search needs
 
-shared-slice-read-judge : tie.Need-shared-slice-read-judge Inv-loop μ-loop
-shared-slice-read-judge c = search needs
+shared-slice-read-compare : tie.Need-shared-slice-read-compare Inv-loop μ-loop
+shared-slice-read-compare c = search needs
 
-shared-slice-read-judge-2 : tie.Need-shared-slice-read-judge-2 Inv-loop μ-loop
-shared-slice-read-judge-2 c = search needs
+shared-slice-read-compare-2 : tie.Need-shared-slice-read-compare-2 Inv-loop μ-loop
+shared-slice-read-compare-2 c = search needs
 
-judge-requires : tie.Need-judge-requires Inv-loop μ-loop
-judge-requires c κs =
+compare-requires : tie.Need-compare-requires Inv-loop μ-loop
+compare-requires c κs =
     let a = c .before .before .before .before .before .before .before .before in
     (omega arith, a .pre .1 .narrow (c .before .before .before .loop .i) (omega arith))
 
@@ -63,7 +59,7 @@ add-t20 c =
     let x = a .args in
     let hc : i < length (x .codes .now) = omega arith in
     let narrow = a .pre .1 .narrow i (l .loop-test .taken) in
-    let w = turn-found (x .codes .now) (x .lens .now) (x .s .now) (x .at) (x .end) i (l .before .loop .short) hc (l .loop-test .taken) narrow (b .first-bits .ensures .0) (b .first-bits .ensures .1) (j .judge .ensures) (c .before .enum-told .given .1) in
+    let w = turn-found (x .codes .now) (x .lens .now) (x .s .now) (x .at) (x .end) i (l .before .loop .short) hc (l .loop-test .taken) narrow (b .first-bits .ensures .0) (b .first-bits .ensures .1) (j .compare .ensures) (c .before .enum-told .given .1) in
     omega arith
 
 returns : tie.Need-returns Inv-loop μ-loop
@@ -76,7 +72,7 @@ returns c =
     let x = a .args in
     let hc : i < length (x .codes .now) = omega arith in
     let narrow = a .pre .1 .narrow i (l .loop-test .taken) in
-    turn-found (x .codes .now) (x .lens .now) (x .s .now) (x .at) (x .end) i (l .before .loop .short) hc (l .loop-test .taken) narrow (b .first-bits .ensures .0) (b .first-bits .ensures .1) (j .judge .ensures) (c .before .enum-told .given .1) .0 ∙ sym (l .before .loop .inv .1)
+    turn-found (x .codes .now) (x .lens .now) (x .s .now) (x .at) (x .end) i (l .before .loop .short) hc (l .loop-test .taken) narrow (b .first-bits .ensures .0) (b .first-bits .ensures .1) (j .compare .ensures) (c .before .enum-told .given .1) .0 ∙ sym (l .before .loop .inv .1)
 
 enum-told-2 : tie.Need-enum-told-2 Inv-loop μ-loop
 enum-told-2 c = search needs
@@ -102,8 +98,8 @@ loop-again c =
     let narrow = a .pre .1 .narrow i (l .loop-test .taken) in (
       omega arith,
       ⊎-elim
-          (λ w. rw (w .2) (l .before .loop .inv .1 ∙ turn-cut (x .codes .now) (x .lens .now) (x .s .now) (x .at) (x .end) i (l .before .loop .short) hc (l .loop-test .taken) narrow (b .first-bits .ensures .0) (b .first-bits .ensures .1) (j .judge .ensures) (w .1 .given .1)))
-          (λ w. rw (w .2) (l .before .loop .inv .1 ∙ turn-neither (x .codes .now) (x .lens .now) (x .s .now) (x .at) (x .end) i (l .before .loop .short) hc (l .loop-test .taken) narrow (b .first-bits .ensures .0) (b .first-bits .ensures .1) (j .judge .ensures) (w .1 .given .1)))
+          (λ w. rw (w .2) (l .before .loop .inv .1 ∙ turn-cut (x .codes .now) (x .lens .now) (x .s .now) (x .at) (x .end) i (l .before .loop .short) hc (l .loop-test .taken) narrow (b .first-bits .ensures .0) (b .first-bits .ensures .1) (j .compare .ensures) (w .1 .given .1)))
+          (λ w. rw (w .2) (l .before .loop .inv .1 ∙ turn-neither (x .codes .now) (x .lens .now) (x .s .now) (x .at) (x .end) i (l .before .loop .short) hc (l .loop-test .taken) narrow (b .first-bits .ensures .0) (b .first-bits .ensures .1) (j .compare .ensures) (w .1 .given .1)))
           (c .match .came),
     )
 
@@ -127,10 +123,10 @@ read-word-spec =
     μ-loop
     first-bits-requires
     loop-holds
-    mul-judge
-    shared-slice-read-judge
-    shared-slice-read-judge-2
-    judge-requires
+    mul-compare
+    shared-slice-read-compare
+    shared-slice-read-compare-2
+    compare-requires
     enum-told
     cast-t16
     shared-slice-read-t18

@@ -6,8 +6,6 @@ use lib.ListN.{length, length-set}
 use Rattle.bits.proofs.Copied.{copied, copied-more}
 use Rattle.bits.proofs.write.copy_out.Statement.{statement}
 use Rattle.bits.proofs.write.copy_out.Tie as tie
-use Rattle.bits.proofs.write.copy_out.Reads as reads
-use Rattle.bits.proofs.write.copy_out.Lts as lts
 
 abbrev Inv-loop : tie.InvT-loop
 Inv-loop out₀ scratch n i₀ out i = (i ≤ n) × (length out ≡ length out₀) × (out ≡ copied scratch out₀ i)

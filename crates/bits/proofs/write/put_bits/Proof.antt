@@ -9,9 +9,6 @@ use Rattle.bits.specs.Packed.{put, setBit}
 use Rattle.bits.proofs.PutLaws.{put-more, put-length}
 use Rattle.bits.proofs.write.put_bits.Statement.{statement}
 use Rattle.bits.proofs.write.put_bits.Tie as tie
-use Rattle.bits.proofs.write.put_bits.Reads as reads
-use Rattle.bits.proofs.write.put_bits.Lts as lts
-use Rattle.bits.proofs.write.set_bit.Reads as set-bit-reads
 
 abbrev Inv-loop : tie.InvT-loop
 Inv-loop out₀ at v n k₀ out k = (k ≤ n) × (length out ≡ length out₀) × (out ≡ put out₀ at (v / 2 ^ (n - k)) k)

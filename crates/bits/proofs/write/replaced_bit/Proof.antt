@@ -6,8 +6,6 @@ use Rattle.bits.proofs.PutLaws.{bit-weight, taken-le, replaced-lt}
 use borrow.Author.Needs.{needs}
 use Rattle.bits.proofs.write.replaced_bit.Statement.{statement}
 use Rattle.bits.proofs.write.replaced_bit.Tie as tie
-use Rattle.bits.proofs.write.replaced_bit.Reads as reads
-use Rattle.bits.proofs.write.replaced_bit.Lts as lts
 
 shl-m : tie.Need-shl-m
 shl-m c = search needs

@@ -1,9 +1,6 @@
 use borrow.Author.Needs.{needs}
 use Rattle.bits.proofs.write.set_bit.Statement.{statement}
 use Rattle.bits.proofs.write.set_bit.Tie as tie
-use Rattle.bits.proofs.write.set_bit.Reads as reads
-use Rattle.bits.proofs.write.set_bit.Lts as lts
-use Rattle.bits.proofs.write.replaced_bit.Reads as replaced-bit-reads
 
 slice-read-replaced-bit : tie.Need-slice-read-replaced-bit
 slice-read-replaced-bit c = search needs

@@ -4,10 +4,6 @@ use Rattle.channel.proofs.StreamLaws.{edges-count}
 use borrow.Author.Needs.{needs}
 use Rattle.channel.proofs.stream.read_coded.Statement.{statement}
 use Rattle.channel.proofs.stream.read_coded.Tie as tie
-use Rattle.channel.proofs.stream.read_coded.Reads as reads
-use Rattle.channel.proofs.stream.read_coded.Lts as lts
-use Rattle.channel.proofs.stream.read_pulsed.Reads as read-pulsed-reads
-use Rattle.spectrum.proofs.bands.part_of.Reads as part-of-reads
 
 part-of-requires : tie.Need-part-of-requires
 part-of-requires c κs = search needs

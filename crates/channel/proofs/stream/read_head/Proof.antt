@@ -7,12 +7,6 @@ use Rattle.channel.proofs.StreamLaws.{window-is, head-cut, head-window,
 use borrow.Author.Needs.{needs}
 use Rattle.channel.proofs.stream.read_head.Statement.{statement}
 use Rattle.channel.proofs.stream.read_head.Tie as tie
-use Rattle.channel.proofs.stream.read_head.Reads as reads
-use Rattle.channel.proofs.stream.read_head.Lts as lts
-use Rattle.bits.proofs.passed_on.Reads as passed-on-reads
-use Rattle.bits.proofs.read_field.Reads as read-field-reads
-use Rattle.channel.proofs.stream.refusal.Reads as refusal-reads
-use Rattle.side.proofs.window.read_window.Reads as read-window-reads
 
 read-field-requires : tie.Need-read-field-requires
 read-field-requires c κs = search needs

@@ -8,12 +8,6 @@ use Rattle.channel.proofs.StreamLawful.{stream-lawful}
 use borrow.Author.Needs.{needs}
 use Rattle.channel.proofs.stream.read_payload.Statement.{statement}
 use Rattle.channel.proofs.stream.read_payload.Tie as tie
-use Rattle.channel.proofs.stream.read_payload.Reads as reads
-use Rattle.channel.proofs.stream.read_payload.Lts as lts
-use Rattle.channel.proofs.stream.read_stream.Reads as read-stream-reads
-use Rattle.spectrum.proofs.bands.edges.Reads as edges-reads
-use Rattle.tables.proofs.codes.Reads as codes-reads
-use Rattle.tables.proofs.lens.Reads as lens-reads
 
 codes-requires : tie.Need-codes-requires
 codes-requires c κs = search needs

@@ -1,17 +1,11 @@
 use mathlib.Core.Path.{_∙_, ap}
 use Rattle.bits.specs.Answers.{passedOn}
 use Rattle.bits.proofs.Taken.{ended-is}
-use Rattle.side.specs.Answers.{windowOf}
+use Rattle.channel_side.specs.Answers.{windowOf}
 use Rattle.channel.proofs.StreamLaws.{pulses-is, coded-pulses, coded-lines, coded-is}
 use borrow.Author.Needs.{needs}
 use Rattle.channel.proofs.stream.read_pulsed.Statement.{statement}
 use Rattle.channel.proofs.stream.read_pulsed.Tie as tie
-use Rattle.channel.proofs.stream.read_pulsed.Reads as reads
-use Rattle.channel.proofs.stream.read_pulsed.Lts as lts
-use Rattle.bits.proofs.passed_on.Reads as passed-on-reads
-use Rattle.channel.proofs.stream.read_unpulsed.Reads as read-unpulsed-reads
-use Rattle.side.proofs.pulses.apply_pulses.Reads as apply-pulses-reads
-use Rattle.side.proofs.pulses.read_pulses.Reads as read-pulses-reads
 
 read-pulses-requires : tie.Need-read-pulses-requires
 read-pulses-requires c κs = search needs

@@ -2,20 +2,13 @@ use mathlib.Core.Path.{_∙_, ap}
 use native.Mathlib.Nat.{le-trans}
 use lib.Dec.{eqb}
 use Rattle.bits.proofs.Taken.{ended-is}
-use Rattle.spectrum.proofs.BandLaws.{bands-most}
-use Rattle.side.specs.Answers.{windowOf}
+use Rattle.channel_lines.proofs.BandLaws.{bands-most}
+use Rattle.channel_side.specs.Answers.{windowOf}
 use Rattle.channel.specs.Answers.{openRefusal}
 use Rattle.channel.proofs.StreamLaws.{head-is, sections-is, stream-head, stream-books, stream-factors, stream-coded, stream-got}
 use borrow.Author.Needs.{needs}
 use Rattle.channel.proofs.stream.read_stream.Statement.{statement}
 use Rattle.channel.proofs.stream.read_stream.Tie as tie
-use Rattle.channel.proofs.stream.read_stream.Reads as reads
-use Rattle.channel.proofs.stream.read_stream.Lts as lts
-use Rattle.channel.proofs.stream.read_coded.Reads as read-coded-reads
-use Rattle.channel.proofs.stream.read_head.Reads as read-head-reads
-use Rattle.channel.proofs.stream.read_scale_factors.Reads as read-scale-factors-reads
-use Rattle.channel.proofs.stream.refusal.Reads as refusal-reads
-use Rattle.side.proofs.sections.read_books.Reads as read-books-reads
 
 read-head-requires : tie.Need-read-head-requires
 read-head-requires c κs = search needs

@@ -3,17 +3,12 @@ use native.Mathlib.Omega.{arith}
 use lib.Dec.{eqb}
 use Rattle.bits.specs.Answers.{passedOn}
 use Rattle.bits.proofs.Taken.{answered}
-use Rattle.spectrum.proofs.BandLaws.{bands-rising, bands-most, bands-some}
-use Rattle.side.specs.Answers.{windowOf}
+use Rattle.channel_lines.proofs.BandLaws.{bands-rising, bands-most, bands-some}
+use Rattle.channel_side.specs.Answers.{windowOf}
 use Rattle.channel.proofs.StreamLaws.{spectrum-is, unpulsed-tns, unpulsed-control, unpulsed-is}
 use borrow.Author.Needs.{needs}
 use Rattle.channel.proofs.stream.read_unpulsed.Statement.{statement}
 use Rattle.channel.proofs.stream.read_unpulsed.Tie as tie
-use Rattle.channel.proofs.stream.read_unpulsed.Reads as reads
-use Rattle.channel.proofs.stream.read_unpulsed.Lts as lts
-use Rattle.bits.proofs.passed_on.Reads as passed-on-reads
-use Rattle.side.proofs.window.read_flag.Reads as read-flag-reads
-use Rattle.spectrum.proofs.lines.read_lines.Reads as read-lines-reads
 
 read-flag-requires : tie.Need-read-flag-requires
 read-flag-requires c κs = search needs

@@ -3,8 +3,6 @@ use Rattle.channel.specs.Answers.{openRefusal}
 use borrow.Author.Needs.{needs}
 use Rattle.channel.proofs.stream.refusal.Statement.{statement}
 use Rattle.channel.proofs.stream.refusal.Tie as tie
-use Rattle.channel.proofs.stream.refusal.Reads as reads
-use Rattle.channel.proofs.stream.refusal.Lts as lts
 
 enum-known-r : tie.Need-enum-known-r
 enum-known-r c = search needs

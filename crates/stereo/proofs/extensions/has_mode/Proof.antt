@@ -1,8 +1,6 @@
 use borrow.Author.Tests.{eq-eqb, ne-eqb}
 use Rattle.stereo.proofs.extensions.has_mode.Statement.{statement}
 use Rattle.stereo.proofs.extensions.has_mode.Tie as tie
-use Rattle.stereo.proofs.extensions.has_mode.Reads as reads
-use Rattle.stereo.proofs.extensions.has_mode.Lts as lts
 
 returns : tie.Need-returns
 returns c = rw (eq-eqb _ _ (c .if1 .taken))

@@ -2,8 +2,6 @@ use borrow.Author.Tests.{eq-eqb, ne-eqb}
 use borrow.Author.Needs.{needs}
 use Rattle.stereo.proofs.extensions.inside.Statement.{statement}
 use Rattle.stereo.proofs.extensions.inside.Tie as tie
-use Rattle.stereo.proofs.extensions.inside.Reads as reads
-use Rattle.stereo.proofs.extensions.inside.Lts as lts
 
 enum-known-ended : tie.Need-enum-known-ended
 enum-known-ended c = search needs

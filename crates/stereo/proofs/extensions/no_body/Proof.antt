@@ -2,9 +2,6 @@ use Rattle.stereo.specs.Extension.{noBody}
 use borrow.Author.Needs.{needs}
 use Rattle.stereo.proofs.extensions.no_body.Statement.{statement}
 use Rattle.stereo.proofs.extensions.no_body.Tie as tie
-use Rattle.stereo.proofs.extensions.no_body.Reads as reads
-use Rattle.stereo.proofs.extensions.no_body.Lts as lts
-use Rattle.stereo.proofs.extensions.none_of_four.Reads as none-of-four-reads
 
 none-of-four-requires : tie.Need-none-of-four-requires
 none-of-four-requires c κs = search needs

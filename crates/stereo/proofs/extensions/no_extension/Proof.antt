@@ -2,9 +2,6 @@ use Rattle.stereo.specs.Extension.{noExtension}
 use borrow.Author.Needs.{needs}
 use Rattle.stereo.proofs.extensions.no_extension.Statement.{statement}
 use Rattle.stereo.proofs.extensions.no_extension.Tie as tie
-use Rattle.stereo.proofs.extensions.no_extension.Reads as reads
-use Rattle.stereo.proofs.extensions.no_extension.Lts as lts
-use Rattle.stereo.proofs.extensions.no_part.Reads as no-part-reads
 
 no-part-requires : tie.Need-no-part-requires
 no-part-requires c κs = search needs

@@ -2,9 +2,6 @@ use Rattle.stereo.specs.Extension.{noPart}
 use borrow.Author.Needs.{needs}
 use Rattle.stereo.proofs.extensions.no_part.Statement.{statement}
 use Rattle.stereo.proofs.extensions.no_part.Tie as tie
-use Rattle.stereo.proofs.extensions.no_part.Reads as reads
-use Rattle.stereo.proofs.extensions.no_part.Lts as lts
-use Rattle.stereo.proofs.extensions.no_body.Reads as no-body-reads
 
 no-body-requires : tie.Need-no-body-requires
 no-body-requires c κs = search needs

@@ -2,9 +2,6 @@ use Rattle.stereo.specs.Extension.{noPhases}
 use borrow.Author.Needs.{needs}
 use Rattle.stereo.proofs.extensions.no_phases.Statement.{statement}
 use Rattle.stereo.proofs.extensions.no_phases.Tie as tie
-use Rattle.stereo.proofs.extensions.no_phases.Reads as reads
-use Rattle.stereo.proofs.extensions.no_phases.Lts as lts
-use Rattle.differences.proofs.rows.no_row.Reads as no-row-reads
 
 no-row-requires : tie.Need-no-row-requires
 no-row-requires c κs = search needs

@@ -4,10 +4,6 @@ use Rattle.stereo.specs.Extension.{phases}
 use borrow.Author.Needs.{needs}
 use Rattle.stereo.proofs.extensions.read_all_phases.Statement.{statement}
 use Rattle.stereo.proofs.extensions.read_all_phases.Tie as tie
-use Rattle.stereo.proofs.extensions.read_all_phases.Reads as reads
-use Rattle.stereo.proofs.extensions.read_all_phases.Lts as lts
-use Rattle.stereo.proofs.extensions.none_of_four.Reads as none-of-four-reads
-use Rattle.stereo.proofs.extensions.read_phases_of.Reads as read-phases-of-reads
 
 read-phases-of-requires : tie.Need-read-phases-of-requires
 read-phases-of-requires c κs = search needs

@@ -8,12 +8,6 @@ use Rattle.stereo.proofs.ExtensionLaws.{announced-none, announced-short
 use borrow.Author.Needs.{needs}
 use Rattle.stereo.proofs.extensions.read_announced.Statement.{statement}
 use Rattle.stereo.proofs.extensions.read_announced.Tie as tie
-use Rattle.stereo.proofs.extensions.read_announced.Reads as reads
-use Rattle.stereo.proofs.extensions.read_announced.Lts as lts
-use Rattle.stereo.proofs.extensions.inside.Reads as inside-reads
-use Rattle.stereo.proofs.extensions.no_part.Reads as no-part-reads
-use Rattle.stereo.proofs.extensions.read_part.Reads as read-part-reads
-use Rattle.stereo.proofs.extensions.remaining.Reads as remaining-reads
 
 -- what is left before the end, and the announced bits
 short : (at end left bits : ℕ) → left ≡ end - at → left < bits → end < at + bits

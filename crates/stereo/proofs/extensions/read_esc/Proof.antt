@@ -4,9 +4,6 @@ use Rattle.stereo.specs.Extension.{escCount}
 use borrow.Author.Needs.{needs}
 use Rattle.stereo.proofs.extensions.read_esc.Statement.{statement}
 use Rattle.stereo.proofs.extensions.read_esc.Tie as tie
-use Rattle.stereo.proofs.extensions.read_esc.Reads as reads
-use Rattle.stereo.proofs.extensions.read_esc.Lts as lts
-use Rattle.bits.proofs.read_field.Reads as read-field-reads
 
 read-field-requires : tie.Need-read-field-requires
 read-field-requires c κs = search needs

@@ -3,10 +3,6 @@ use Rattle.stereo.specs.Extension.{extension}
 use borrow.Author.Needs.{needs}
 use Rattle.stereo.proofs.extensions.read_extension.Statement.{statement}
 use Rattle.stereo.proofs.extensions.read_extension.Tie as tie
-use Rattle.stereo.proofs.extensions.read_extension.Reads as reads
-use Rattle.stereo.proofs.extensions.read_extension.Lts as lts
-use Rattle.stereo.proofs.extensions.no_extension.Reads as no-extension-reads
-use Rattle.stereo.proofs.extensions.read_extension_sent.Reads as read-extension-sent-reads
 
 read-extension-sent-requires : tie.Need-read-extension-sent-requires
 read-extension-sent-requires c κs = search needs

@@ -9,12 +9,6 @@ use Rattle.stereo.proofs.ExtensionLaws.{sent-rest, esc-below}
 use borrow.Author.Needs.{needs}
 use Rattle.stereo.proofs.extensions.read_extension_sent.Statement.{statement}
 use Rattle.stereo.proofs.extensions.read_extension_sent.Tie as tie
-use Rattle.stereo.proofs.extensions.read_extension_sent.Reads as reads
-use Rattle.stereo.proofs.extensions.read_extension_sent.Lts as lts
-use Rattle.bits.proofs.read_field.Reads as read-field-reads
-use Rattle.stereo.proofs.extensions.read_announced.Reads as read-announced-reads
-use Rattle.stereo.proofs.extensions.read_esc.Reads as read-esc-reads
-use Rattle.stereo.proofs.extensions.refused_extension.Reads as refused-extension-reads
 
 -- the size is at most 270
 size-le : (c : tie.After-known-told2) → c .before .before .before .before .before .f1 .given .0 .0 + c .before .f2 .given .0 .0 ≤ 270

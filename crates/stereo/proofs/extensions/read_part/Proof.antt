@@ -7,13 +7,6 @@ use Rattle.stereo.proofs.ExtensionLaws.{part-refused, part-another, par
 use borrow.Author.Needs.{needs}
 use Rattle.stereo.proofs.extensions.read_part.Statement.{statement}
 use Rattle.stereo.proofs.extensions.read_part.Tie as tie
-use Rattle.stereo.proofs.extensions.read_part.Reads as reads
-use Rattle.stereo.proofs.extensions.read_part.Lts as lts
-use Rattle.bits.proofs.bits_at.Reads as bits-at-reads
-use Rattle.stereo.proofs.extensions.no_part.Reads as no-part-reads
-use Rattle.stereo.proofs.extensions.read_v0.Reads as read-v0-reads
-use Rattle.stereo.proofs.extensions.remaining.Reads as remaining-reads
-use Rattle.stereo.proofs.extensions.why_another.Reads as why-another-reads
 
 read-v0-requires : tie.Need-read-v0-requires
 read-v0-requires c κs = search needs

@@ -7,10 +7,6 @@ use Rattle.stereo.specs.Extension.{phaseFlag}
 use borrow.Author.Needs.{needs}
 use Rattle.stereo.proofs.extensions.read_phase_flag.Statement.{statement}
 use Rattle.stereo.proofs.extensions.read_phase_flag.Tie as tie
-use Rattle.stereo.proofs.extensions.read_phase_flag.Reads as reads
-use Rattle.stereo.proofs.extensions.read_phase_flag.Lts as lts
-use Rattle.bits.proofs.read_field.Reads as read-field-reads
-use Rattle.stereo.proofs.extensions.has_mode.Reads as has-mode-reads
 
 read-field-requires : tie.Need-read-field-requires
 read-field-requires c κs = search needs

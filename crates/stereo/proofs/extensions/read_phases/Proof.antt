@@ -7,10 +7,6 @@ use Rattle.stereo.proofs.ExtensionLaws.{phases-refused, phases-rest}
 use borrow.Author.Needs.{needs}
 use Rattle.stereo.proofs.extensions.read_phases.Statement.{statement}
 use Rattle.stereo.proofs.extensions.read_phases.Tie as tie
-use Rattle.stereo.proofs.extensions.read_phases.Reads as reads
-use Rattle.stereo.proofs.extensions.read_phases.Lts as lts
-use Rattle.differences.proofs.rows.read_row.Reads as read-row-reads
-use Rattle.stereo.proofs.extensions.no_phases.Reads as no-phases-reads
 
 read-row-requires : tie.Need-read-row-requires
 read-row-requires c κs = search needs

@@ -10,30 +10,25 @@ use Rattle.bits.specs.Answers.{endedAnswer}
 use Rattle.bits.specs.Loop.{counted, more}
 use Rattle.bits.specs.declared.Ended.{Ended}
 use Rattle.bits.proofs.LoopLaws.{counted-start, counted-more, counted-stop, counted-done, more-got, more-refused}
-use Rattle.differences.specs.Held.{held}
-use Rattle.differences.specs.Rows.{heldAfter}
-use Rattle.differences.proofs.ArrayLaws.{Filled, filled-none, filled-set, taken-set, filled-padded}
+use Rattle.stereo_indices.specs.Record.{recordOf}
+use Rattle.stereo_indices.specs.Rows.{recordAfterRows}
+use Rattle.stereo_indices.proofs.ArrayLaws.{Filled, filled-none, filled-set, taken-set, filled-padded}
 use Rattle.stereo.specs.Extension.{noPhases, ipds, opds, phasesIn, phasesNext}
 use Rattle.stereo.specs.declared.Phases.{Phases}
 use Rattle.stereo.specs.declared.PhaseRecords.{PhaseRecords}
 use Rattle.stereo.proofs.ExtensionLaws.{all-got, all-refused, after-ipds, after-opds}
 use Rattle.stereo.proofs.extensions.read_phases_of.Statement.{statement}
 use Rattle.stereo.proofs.extensions.read_phases_of.Tie as tie
-use Rattle.stereo.proofs.extensions.read_phases_of.Reads as reads
-use Rattle.stereo.proofs.extensions.read_phases_of.Lts as lts
-use Rattle.stereo.proofs.extensions.left_by.Reads as left-by-reads
-use Rattle.stereo.proofs.extensions.none_of_four.Reads as none-of-four-reads
-use Rattle.stereo.proofs.extensions.read_phases.Reads as read-phases-reads
 
 -- the phases of the next envelope, and the records after some
 abbrev next : ℕ → PhaseRecords → List Phases → Reader Phases
 next mode h = phasesNext mode (h .ipd) (h .opd)
 
 abbrev after : PhaseRecords → ℕ → List Phases → PhaseRecords
-after h mode ps = record { ipd = heldAfter (h .ipd) mode (ipds ps); opd = heldAfter (h .opd) mode (opds ps) }
+after h mode ps = record { ipd = recordAfterRows (h .ipd) mode (ipds ps); opd = recordAfterRows (h .opd) mode (opds ps) }
 
 after-more : (h : PhaseRecords) (mode : ℕ) (ps : List Phases) (p : Phases)
-    → after h mode (ps ++ p ∷ []) ≡ record { ipd = held mode (p .ipd .indices); opd = held mode (p .opd .indices) }
+    → after h mode (ps ++ p ∷ []) ≡ record { ipd = recordOf mode (p .ipd .indices); opd = recordOf mode (p .opd .indices) }
 after-more h mode ps p = rw (after-ipds (h .ipd) mode ps p, after-opds (h .opd) mode ps p)
 
 record Inv (f : List Phases → Reader Phases) (mode : ℕ) (h : PhaseRecords) (s : List ℕ) (at end n : ℕ) (phases : List Phases) (last : PhaseRecords) (place k : ℕ) : Type 0 where

@@ -6,9 +6,6 @@ use Rattle.bits.proofs.Taken.{answered}
 use borrow.Author.Needs.{needs}
 use Rattle.stereo.proofs.extensions.read_reserved.Statement.{statement}
 use Rattle.stereo.proofs.extensions.read_reserved.Tie as tie
-use Rattle.stereo.proofs.extensions.read_reserved.Reads as reads
-use Rattle.stereo.proofs.extensions.read_reserved.Lts as lts
-use Rattle.bits.proofs.read_field.Reads as read-field-reads
 
 read-field-requires : tie.Need-read-field-requires
 read-field-requires c κs = search needs

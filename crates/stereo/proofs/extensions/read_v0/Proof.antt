@@ -9,13 +9,6 @@ use Rattle.stereo.proofs.ExtensionLaws.{v0-refused, v0-cut, v0-rest}
 use borrow.Author.Needs.{needs}
 use Rattle.stereo.proofs.extensions.read_v0.Statement.{statement}
 use Rattle.stereo.proofs.extensions.read_v0.Tie as tie
-use Rattle.stereo.proofs.extensions.read_v0.Reads as reads
-use Rattle.stereo.proofs.extensions.read_v0.Lts as lts
-use Rattle.bits.proofs.passed_on.Reads as passed-on-reads
-use Rattle.stereo.proofs.extensions.read_all_phases.Reads as read-all-phases-reads
-use Rattle.stereo.proofs.extensions.read_phase_flag.Reads as read-phase-flag-reads
-use Rattle.stereo.proofs.extensions.read_reserved.Reads as read-reserved-reads
-use Rattle.stereo.proofs.extensions.refused_body.Reads as refused-body-reads
 
 read-phase-flag-requires : tie.Need-read-phase-flag-requires
 read-phase-flag-requires c κs = search needs

@@ -2,9 +2,6 @@ use borrow.Author.Tests.{eq-eqb, ne-eqb}
 use borrow.Author.Needs.{needs}
 use Rattle.stereo.proofs.extensions.why_another.Statement.{statement}
 use Rattle.stereo.proofs.extensions.why_another.Tie as tie
-use Rattle.stereo.proofs.extensions.why_another.Reads as reads
-use Rattle.stereo.proofs.extensions.why_another.Lts as lts
-use Rattle.bits.proofs.bits_at.Reads as bits-at-reads
 
 bits-at-requires : tie.Need-bits-at-requires
 bits-at-requires c κs = search needs

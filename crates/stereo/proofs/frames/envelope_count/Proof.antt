@@ -4,8 +4,6 @@ use Rattle.stereo.specs.Frame.{envelopeCount}
 use borrow.Author.Needs.{needs}
 use Rattle.stereo.proofs.frames.envelope_count.Statement.{statement}
 use Rattle.stereo.proofs.frames.envelope_count.Tie as tie
-use Rattle.stereo.proofs.frames.envelope_count.Reads as reads
-use Rattle.stereo.proofs.frames.envelope_count.Lts as lts
 
 add-result : tie.Need-add-result
 add-result c = search needs

@@ -2,8 +2,6 @@ use mathlib.Core.Path.{refl}
 use Rattle.stereo.specs.Frame.{noBorders}
 use Rattle.stereo.proofs.frames.no_borders.Statement.{statement}
 use Rattle.stereo.proofs.frames.no_borders.Tie as tie
-use Rattle.stereo.proofs.frames.no_borders.Reads as reads
-use Rattle.stereo.proofs.frames.no_borders.Lts as lts
 
 returns : tie.Need-returns
 unfolding noBorders

@@ -2,9 +2,6 @@ use Rattle.stereo.specs.Frame.{noFrame}
 use borrow.Author.Needs.{needs}
 use Rattle.stereo.proofs.frames.no_frame.Statement.{statement}
 use Rattle.stereo.proofs.frames.no_frame.Tie as tie
-use Rattle.stereo.proofs.frames.no_frame.Reads as reads
-use Rattle.stereo.proofs.frames.no_frame.Lts as lts
-use Rattle.stereo.proofs.frames.no_borders.Reads as no-borders-reads
 
 no-borders-requires : tie.Need-no-borders-requires
 no-borders-requires c κs = search needs

@@ -4,10 +4,6 @@ use Rattle.stereo.specs.Frame.{borders}
 use borrow.Author.Needs.{needs}
 use Rattle.stereo.proofs.frames.read_borders.Statement.{statement}
 use Rattle.stereo.proofs.frames.read_borders.Tie as tie
-use Rattle.stereo.proofs.frames.read_borders.Reads as reads
-use Rattle.stereo.proofs.frames.read_borders.Lts as lts
-use Rattle.stereo.proofs.frames.no_borders.Reads as no-borders-reads
-use Rattle.stereo.proofs.frames.read_borders_of.Reads as read-borders-of-reads
 
 read-borders-of-requires : tie.Need-read-borders-of-requires
 read-borders-of-requires c κs = search needs

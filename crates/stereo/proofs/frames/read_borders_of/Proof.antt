@@ -10,15 +10,11 @@ use Rattle.bits.specs.Field.{field}
 use Rattle.bits.specs.Loop.{counted, more}
 use Rattle.bits.proofs.Taken.{answered}
 use Rattle.bits.proofs.LoopLaws.{counted-start, counted-more, counted-stop, counted-done, more-got, more-refused}
-use Rattle.differences.proofs.ArrayLaws.{Filled, filled-none, filled-set, taken-set, filled-padded}
+use Rattle.stereo_indices.proofs.ArrayLaws.{Filled, filled-none, filled-set, taken-set, filled-padded}
 use Rattle.stereo.specs.Frame.{noBorders}
 use Rattle.stereo.proofs.FrameLaws.{borders-got, borders-refused}
 use Rattle.stereo.proofs.frames.read_borders_of.Statement.{statement}
 use Rattle.stereo.proofs.frames.read_borders_of.Tie as tie
-use Rattle.stereo.proofs.frames.read_borders_of.Reads as reads
-use Rattle.stereo.proofs.frames.read_borders_of.Lts as lts
-use Rattle.bits.proofs.read_field.Reads as read-field-reads
-use Rattle.stereo.proofs.frames.no_borders.Reads as no-borders-reads
 
 -- the next border
 abbrev next : List ℕ → Reader ℕ

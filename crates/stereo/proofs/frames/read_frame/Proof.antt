@@ -9,12 +9,6 @@ use Rattle.stereo.proofs.FrameLaws.{frame-rest}
 use borrow.Author.Needs.{needs}
 use Rattle.stereo.proofs.frames.read_frame.Statement.{statement}
 use Rattle.stereo.proofs.frames.read_frame.Tie as tie
-use Rattle.stereo.proofs.frames.read_frame.Reads as reads
-use Rattle.stereo.proofs.frames.read_frame.Lts as lts
-use Rattle.bits.proofs.read_field.Reads as read-field-reads
-use Rattle.stereo.proofs.frames.envelope_count.Reads as envelope-count-reads
-use Rattle.stereo.proofs.frames.read_borders.Reads as read-borders-reads
-use Rattle.stereo.proofs.frames.refused_frame.Reads as refused-frame-reads
 
 read-field-requires : tie.Need-read-field-requires
 read-field-requires c κs = search needs

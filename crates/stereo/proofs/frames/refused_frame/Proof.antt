@@ -3,10 +3,6 @@ use Rattle.stereo.specs.Frame.{noFrame}
 use borrow.Author.Needs.{needs}
 use Rattle.stereo.proofs.frames.refused_frame.Statement.{statement}
 use Rattle.stereo.proofs.frames.refused_frame.Tie as tie
-use Rattle.stereo.proofs.frames.refused_frame.Reads as reads
-use Rattle.stereo.proofs.frames.refused_frame.Lts as lts
-use Rattle.bits.proofs.passed_on.Reads as passed-on-reads
-use Rattle.stereo.proofs.frames.no_frame.Reads as no-frame-reads
 
 passed-on-requires : tie.Need-passed-on-requires
 passed-on-requires c κs = search needs

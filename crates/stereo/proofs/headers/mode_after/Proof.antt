@@ -1,8 +1,6 @@
 use borrow.Author.Tests.{eq-eqb, ne-eqb}
 use Rattle.stereo.proofs.headers.mode_after.Statement.{statement}
 use Rattle.stereo.proofs.headers.mode_after.Tie as tie
-use Rattle.stereo.proofs.headers.mode_after.Reads as reads
-use Rattle.stereo.proofs.headers.mode_after.Lts as lts
 
 returns : tie.Need-returns
 returns c = rw (eq-eqb _ _ (c .if1 .taken))

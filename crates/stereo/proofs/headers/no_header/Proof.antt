@@ -2,8 +2,6 @@ use mathlib.Core.Path.{refl}
 use Rattle.stereo.specs.Header.{noHeader}
 use Rattle.stereo.proofs.headers.no_header.Statement.{statement}
 use Rattle.stereo.proofs.headers.no_header.Tie as tie
-use Rattle.stereo.proofs.headers.no_header.Reads as reads
-use Rattle.stereo.proofs.headers.no_header.Lts as lts
 
 returns : tie.Need-returns
 unfolding noHeader

@@ -6,12 +6,6 @@ use Rattle.stereo.proofs.ReadLaws.{passed}
 use borrow.Author.Needs.{needs}
 use Rattle.stereo.proofs.headers.read_header.Statement.{statement}
 use Rattle.stereo.proofs.headers.read_header.Tie as tie
-use Rattle.stereo.proofs.headers.read_header.Reads as reads
-use Rattle.stereo.proofs.headers.read_header.Lts as lts
-use Rattle.bits.proofs.read_field.Reads as read-field-reads
-use Rattle.stereo.proofs.headers.no_header.Reads as no-header-reads
-use Rattle.stereo.proofs.headers.read_header_fields.Reads as read-header-fields-reads
-use Rattle.stereo.proofs.headers.refused_header.Reads as refused-header-reads
 
 read-field-requires : tie.Need-read-field-requires
 read-field-requires c κs = search needs

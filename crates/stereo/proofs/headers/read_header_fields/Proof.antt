@@ -6,11 +6,6 @@ use Rattle.stereo.proofs.ReadLaws.{passed}
 use borrow.Author.Needs.{needs}
 use Rattle.stereo.proofs.headers.read_header_fields.Statement.{statement}
 use Rattle.stereo.proofs.headers.read_header_fields.Tie as tie
-use Rattle.stereo.proofs.headers.read_header_fields.Reads as reads
-use Rattle.stereo.proofs.headers.read_header_fields.Lts as lts
-use Rattle.bits.proofs.read_field.Reads as read-field-reads
-use Rattle.stereo.proofs.headers.read_mode.Reads as read-mode-reads
-use Rattle.stereo.proofs.headers.refused_header.Reads as refused-header-reads
 
 read-field-requires : tie.Need-read-field-requires
 read-field-requires c κs = search needs

@@ -4,9 +4,6 @@ use Rattle.stereo.proofs.HeaderLaws.{mode-off, mode-got, mode-reserved,
 use borrow.Author.Needs.{needs}
 use Rattle.stereo.proofs.headers.read_mode.Statement.{statement}
 use Rattle.stereo.proofs.headers.read_mode.Tie as tie
-use Rattle.stereo.proofs.headers.read_mode.Reads as reads
-use Rattle.stereo.proofs.headers.read_mode.Lts as lts
-use Rattle.bits.proofs.read_field.Reads as read-field-reads
 
 returns : tie.Need-returns
 returns c = mode-off _ _ _ _ (c .if1 .taken)

@@ -2,10 +2,6 @@ use Rattle.stereo.specs.Header.{setupAfter}
 use borrow.Author.Needs.{needs}
 use Rattle.stereo.proofs.headers.setup_after.Statement.{statement}
 use Rattle.stereo.proofs.headers.setup_after.Tie as tie
-use Rattle.stereo.proofs.headers.setup_after.Reads as reads
-use Rattle.stereo.proofs.headers.setup_after.Lts as lts
-use Rattle.stereo.proofs.headers.flag_after.Reads as flag-after-reads
-use Rattle.stereo.proofs.headers.mode_after.Reads as mode-after-reads
 
 flag-after-requires : tie.Need-flag-after-requires
 flag-after-requires c κs = search needs

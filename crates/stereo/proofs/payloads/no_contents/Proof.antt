@@ -2,12 +2,6 @@ use Rattle.stereo.specs.Payload.{noContents}
 use borrow.Author.Needs.{needs}
 use Rattle.stereo.proofs.payloads.no_contents.Statement.{statement}
 use Rattle.stereo.proofs.payloads.no_contents.Tie as tie
-use Rattle.stereo.proofs.payloads.no_contents.Reads as reads
-use Rattle.stereo.proofs.payloads.no_contents.Lts as lts
-use Rattle.differences.proofs.rows.no_rows.Reads as no-rows-reads
-use Rattle.stereo.proofs.extensions.no_extension.Reads as no-extension-reads
-use Rattle.stereo.proofs.frames.no_frame.Reads as no-frame-reads
-use Rattle.stereo.proofs.headers.no_header.Reads as no-header-reads
 
 no-header-requires : tie.Need-no-header-requires
 no-header-requires c κs = search needs

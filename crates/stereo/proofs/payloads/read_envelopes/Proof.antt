@@ -7,12 +7,6 @@ use Rattle.stereo.proofs.ContentsLaws.{iid-refused, icc-refused, envelo
 use borrow.Author.Needs.{needs}
 use Rattle.stereo.proofs.payloads.read_envelopes.Statement.{statement}
 use Rattle.stereo.proofs.payloads.read_envelopes.Tie as tie
-use Rattle.stereo.proofs.payloads.read_envelopes.Reads as reads
-use Rattle.stereo.proofs.payloads.read_envelopes.Lts as lts
-use Rattle.stereo.proofs.payloads.read_levels.Reads as read-levels-reads
-use Rattle.stereo.proofs.payloads.read_coherences.Reads as read-coherences-reads
-use Rattle.stereo.proofs.payloads.read_rest.Reads as read-rest-reads
-use Rattle.stereo.proofs.payloads.refused_contents.Reads as refused-contents-reads
 
 read-levels-requires : tie.Need-read-levels-requires
 read-levels-requires c κs = search needs

@@ -7,13 +7,6 @@ use Rattle.stereo.proofs.ContentsLaws.{header-refused, frame-refused, p
 use borrow.Author.Needs.{needs}
 use Rattle.stereo.proofs.payloads.read_payload.Statement.{statement}
 use Rattle.stereo.proofs.payloads.read_payload.Tie as tie
-use Rattle.stereo.proofs.payloads.read_payload.Reads as reads
-use Rattle.stereo.proofs.payloads.read_payload.Lts as lts
-use Rattle.stereo.proofs.frames.read_frame.Reads as read-frame-reads
-use Rattle.stereo.proofs.headers.read_header.Reads as read-header-reads
-use Rattle.stereo.proofs.headers.setup_after.Reads as setup-after-reads
-use Rattle.stereo.proofs.payloads.read_envelopes.Reads as read-envelopes-reads
-use Rattle.stereo.proofs.payloads.refused_contents.Reads as refused-contents-reads
 
 read-header-requires : tie.Need-read-header-requires
 read-header-requires c κs = search needs

@@ -1,10 +1,6 @@
 use borrow.Author.Needs.{needs}
 use Rattle.stereo.proofs.payloads.read_rest.Statement.{statement}
 use Rattle.stereo.proofs.payloads.read_rest.Tie as tie
-use Rattle.stereo.proofs.payloads.read_rest.Reads as reads
-use Rattle.stereo.proofs.payloads.read_rest.Lts as lts
-use Rattle.stereo.proofs.extensions.read_extension.Reads as read-extension-reads
-use Rattle.stereo.proofs.payloads.phase_records.Reads as phase-records-reads
 
 phase-records-requires : tie.Need-phase-records-requires
 phase-records-requires c κs = search needs

@@ -2,9 +2,6 @@ use Rattle.stereo.specs.State.{fresh, freshSetup}
 use borrow.Author.Needs.{needs}
 use Rattle.stereo.proofs.states.fresh.Statement.{statement}
 use Rattle.stereo.proofs.states.fresh.Tie as tie
-use Rattle.stereo.proofs.states.fresh.Reads as reads
-use Rattle.stereo.proofs.states.fresh.Lts as lts
-use Rattle.differences.proofs.records.none.Reads as none-reads
 
 none-requires : tie.Need-none-requires
 none-requires c κs = search needs

@@ -1,8 +1,6 @@
 use borrow.Author.Needs.{needs}
 use Rattle.stereo.proofs.states.has_mode.Statement.{statement}
 use Rattle.stereo.proofs.states.has_mode.Tie as tie
-use Rattle.stereo.proofs.states.has_mode.Reads as reads
-use Rattle.stereo.proofs.states.has_mode.Lts as lts
 
 returns : tie.Need-returns
 returns c = rw (c .if1 .taken)

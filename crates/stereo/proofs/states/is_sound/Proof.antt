@@ -5,10 +5,6 @@ use Rattle.stereo.specs.State.{sound}
 use borrow.Author.Needs.{needs}
 use Rattle.stereo.proofs.states.is_sound.Statement.{statement}
 use Rattle.stereo.proofs.states.is_sound.Tie as tie
-use Rattle.stereo.proofs.states.is_sound.Reads as reads
-use Rattle.stereo.proofs.states.is_sound.Lts as lts
-use Rattle.differences.proofs.records.is_sound.Reads as is-sound-reads
-use Rattle.stereo.proofs.states.is_sound_setup.Reads as is-sound-setup-reads
 
 is-sound-setup-requires : tie.Need-is-sound-setup-requires
 is-sound-setup-requires c κs = search needs

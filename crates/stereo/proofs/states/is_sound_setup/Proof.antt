@@ -5,10 +5,6 @@ use Rattle.stereo.specs.State.{soundSetup}
 use borrow.Author.Needs.{needs}
 use Rattle.stereo.proofs.states.is_sound_setup.Statement.{statement}
 use Rattle.stereo.proofs.states.is_sound_setup.Tie as tie
-use Rattle.stereo.proofs.states.is_sound_setup.Reads as reads
-use Rattle.stereo.proofs.states.is_sound_setup.Lts as lts
-use Rattle.differences.proofs.records.is_mode.Reads as is-mode-reads
-use Rattle.stereo.proofs.states.has_mode.Reads as has-mode-reads
 
 is-mode-requires : tie.Need-is-mode-requires
 is-mode-requires c κs = search needs

@@ -3,9 +3,6 @@ use Rattle.stereo.specs.Stereo.{phasesAcross}
 use borrow.Author.Needs.{needs}
 use Rattle.stereo.proofs.turns.are_phases_across.Statement.{statement}
 use Rattle.stereo.proofs.turns.are_phases_across.Tie as tie
-use Rattle.stereo.proofs.turns.are_phases_across.Reads as reads
-use Rattle.stereo.proofs.turns.are_phases_across.Lts as lts
-use Rattle.stereo.proofs.turns.phases_at.Reads as phases-at-reads
 
 returns : tie.Need-returns
 unfolding phasesAcross

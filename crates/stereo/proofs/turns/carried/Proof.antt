@@ -2,12 +2,6 @@ use Rattle.stereo.specs.Carried.{carriedIn, carried}
 use borrow.Author.Needs.{needs}
 use Rattle.stereo.proofs.turns.carried.Statement.{statement}
 use Rattle.stereo.proofs.turns.carried.Tie as tie
-use Rattle.stereo.proofs.turns.carried.Reads as reads
-use Rattle.stereo.proofs.turns.carried.Lts as lts
-use Rattle.stereo.proofs.headers.setup_after.Reads as setup-after-reads
-use Rattle.stereo.proofs.turns.last_row.Reads as last-row-reads
-use Rattle.stereo.proofs.turns.phases_after.Reads as phases-after-reads
-use Rattle.stereo.proofs.turns.record_after.Reads as record-after-reads
 
 setup-after-requires : tie.Need-setup-after-requires
 setup-after-requires c κs = search needs

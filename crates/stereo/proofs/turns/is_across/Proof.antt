@@ -1,9 +1,6 @@
 use borrow.Author.Needs.{needs}
 use Rattle.stereo.proofs.turns.is_across.Statement.{statement}
 use Rattle.stereo.proofs.turns.is_across.Tie as tie
-use Rattle.stereo.proofs.turns.is_across.Reads as reads
-use Rattle.stereo.proofs.turns.is_across.Lts as lts
-use Rattle.stereo.proofs.turns.row_at.Reads as row-at-reads
 
 row-at-requires : tie.Need-row-at-requires
 row-at-requires c κs = search needs

@@ -5,10 +5,6 @@ use Rattle.stereo.specs.Stereo.{restart}
 use borrow.Author.Needs.{needs}
 use Rattle.stereo.proofs.turns.is_restart.Statement.{statement}
 use Rattle.stereo.proofs.turns.is_restart.Tie as tie
-use Rattle.stereo.proofs.turns.is_restart.Reads as reads
-use Rattle.stereo.proofs.turns.is_restart.Lts as lts
-use Rattle.stereo.proofs.turns.are_phases_across.Reads as are-phases-across-reads
-use Rattle.stereo.proofs.turns.is_across.Reads as is-across-reads
 
 returns : tie.Need-returns
 unfolding restart

@@ -2,10 +2,6 @@ use mathlib.Core.Path.{_∙_}
 use borrow.Author.Needs.{needs}
 use Rattle.stereo.proofs.turns.last_phases.Statement.{statement}
 use Rattle.stereo.proofs.turns.last_phases.Tie as tie
-use Rattle.stereo.proofs.turns.last_phases.Reads as reads
-use Rattle.stereo.proofs.turns.last_phases.Lts as lts
-use Rattle.stereo.proofs.turns.before.Reads as before-reads
-use Rattle.stereo.proofs.turns.phases_at.Reads as phases-at-reads
 
 before-requires : tie.Need-before-requires
 before-requires c κs = search needs

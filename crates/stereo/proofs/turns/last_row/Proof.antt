@@ -1,10 +1,6 @@
 use borrow.Author.Needs.{needs}
 use Rattle.stereo.proofs.turns.last_row.Statement.{statement}
 use Rattle.stereo.proofs.turns.last_row.Tie as tie
-use Rattle.stereo.proofs.turns.last_row.Reads as reads
-use Rattle.stereo.proofs.turns.last_row.Lts as lts
-use Rattle.stereo.proofs.turns.before.Reads as before-reads
-use Rattle.stereo.proofs.turns.row_at.Reads as row-at-reads
 
 before-requires : tie.Need-before-requires
 before-requires c κs = search needs

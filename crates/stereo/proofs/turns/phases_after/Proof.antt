@@ -2,10 +2,6 @@ use Rattle.stereo.specs.Carried.{phaseRecords}
 use borrow.Author.Needs.{needs}
 use Rattle.stereo.proofs.turns.phases_after.Statement.{statement}
 use Rattle.stereo.proofs.turns.phases_after.Tie as tie
-use Rattle.stereo.proofs.turns.phases_after.Reads as reads
-use Rattle.stereo.proofs.turns.phases_after.Lts as lts
-use Rattle.stereo.proofs.turns.last_phases.Reads as last-phases-reads
-use Rattle.stereo.proofs.turns.record_after.Reads as record-after-reads
 
 last-phases-requires : tie.Need-last-phases-requires
 last-phases-requires c κs = search needs

@@ -8,9 +8,6 @@ use Rattle.stereo.proofs.TurnLaws.{getD-there}
 use borrow.Author.Needs.{needs}
 use Rattle.stereo.proofs.turns.phases_at.Statement.{statement}
 use Rattle.stereo.proofs.turns.phases_at.Tie as tie
-use Rattle.stereo.proofs.turns.phases_at.Reads as reads
-use Rattle.stereo.proofs.turns.phases_at.Lts as lts
-use Rattle.stereo.proofs.extensions.no_phases.Reads as no-phases-reads
 
 mul-result : tie.Need-mul-result
 mul-result c = search needs

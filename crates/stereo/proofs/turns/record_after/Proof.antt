@@ -5,9 +5,6 @@ use Rattle.stereo.specs.Carried.{recordAfter}
 use borrow.Author.Needs.{needs}
 use Rattle.stereo.proofs.turns.record_after.Statement.{statement}
 use Rattle.stereo.proofs.turns.record_after.Tie as tie
-use Rattle.stereo.proofs.turns.record_after.Reads as reads
-use Rattle.stereo.proofs.turns.record_after.Lts as lts
-use Rattle.differences.proofs.records.none.Reads as none-reads
 
 none-requires : tie.Need-none-requires
 none-requires c κs = search needs

@@ -3,14 +3,11 @@ use Prim.Native.Nat.{_≤_}
 use mathlib.Core.Path.{_≡_, sym, _∙_}
 use native.Mathlib.Omega.{arith}
 use lib.ListN.{length, List·getD-eq-default}
-use Rattle.differences.specs.Rows.{noRow}
+use Rattle.stereo_indices.specs.Rows.{noRow}
 use Rattle.stereo.proofs.TurnLaws.{getD-there}
 use borrow.Author.Needs.{needs}
 use Rattle.stereo.proofs.turns.row_at.Statement.{statement}
 use Rattle.stereo.proofs.turns.row_at.Tie as tie
-use Rattle.stereo.proofs.turns.row_at.Reads as reads
-use Rattle.stereo.proofs.turns.row_at.Lts as lts
-use Rattle.differences.proofs.rows.no_row.Reads as no-row-reads
 
 mul-result : tie.Need-mul-result
 mul-result c = search needs

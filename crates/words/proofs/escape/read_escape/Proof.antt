@@ -8,10 +8,6 @@ use Rattle.words.proofs.EscapeLaws.{ones-few, escape-cut, escape-short,
 use borrow.Author.Needs.{needs}
 use Rattle.words.proofs.escape.read_escape.Statement.{statement}
 use Rattle.words.proofs.escape.read_escape.Tie as tie
-use Rattle.words.proofs.escape.read_escape.Reads as reads
-use Rattle.words.proofs.escape.read_escape.Lts as lts
-use Rattle.bits.proofs.read_field.Reads as read-field-reads
-use Rattle.words.proofs.escape.read_ones.Reads as read-ones-reads
 
 read-ones-requires : tie.Need-read-ones-requires
 read-ones-requires c κs = search needs

@@ -7,9 +7,6 @@ use Rattle.words.specs.Escape.{ones}
 use Rattle.words.proofs.EscapeLaws.{ones-short, ones-last, ones-more, ones-nine}
 use Rattle.words.proofs.escape.read_ones.Statement.{statement}
 use Rattle.words.proofs.escape.read_ones.Tie as tie
-use Rattle.words.proofs.escape.read_ones.Reads as reads
-use Rattle.words.proofs.escape.read_ones.Lts as lts
-use Rattle.bits.proofs.read_field.Reads as read-field-reads
 
 abbrev Inv-loop : tie.InvT-loop
 Inv-loop s at end n₀ place₀ n place = (n ≤ 9) × (ones 9 0 s at end ≡ ones (9 - n) n s place end)

@@ -1,0 +1,47 @@
+use native.Mathlib.Omega.{arith}
+use borrow.Author.Tests.{le-leb, lt-leb}
+use Rattle.bits.proofs.Taken.{answered}
+use Rattle.bit_reader.specs.Took.{tookAt}
+use borrow.Author.Needs.{needs}
+use Rattle.bit_reader.proofs.took_at.Statement.{statement}
+use Rattle.bit_reader.proofs.took_at.Tie as tie
+
+returns : tie.Need-returns
+unfolding tookAt
+returns c = rw (lt-leb _ _ (c .if1 .taken))
+
+last-place-requires : tie.Need-last-place-requires
+last-place-requires c κs = search needs
+
+read-field-requires : tie.Need-read-field-requires
+read-field-requires c κs = search needs
+
+enum-known-f : tie.Need-enum-known-f
+enum-known-f c = search needs
+
+enum-known-f-2 : tie.Need-enum-known-f-2
+enum-known-f-2 c = search needs
+
+returns-2 : tie.Need-returns-2
+unfolding tookAt
+returns-2 c =
+    let x = c .before .before .before .before .before .before .before .args in
+    rw (le-leb (x .n) 20 (omega arith), ← (c .before .before .before .before .last-place .ensures .0), answered (c .before .before .before .read-field .ensures) (c .before .f .given .1))
+
+returns-3 : tie.Need-returns-3
+unfolding tookAt
+returns-3 c =
+    let x = c .before .before .before .before .before .before .before .args in
+    rw (le-leb (x .n) 20 (omega arith), ← (c .before .before .before .before .last-place .ensures .0), answered (c .before .before .before .read-field .ensures) (c .before .f2 .given .1))
+
+pub took-at-spec : {M : Type 1} → statement M
+took-at-spec =
+    tie.close
+    (tie.spec
+    returns
+    last-place-requires
+    read-field-requires
+    enum-known-f
+    enum-known-f-2
+    returns-2
+    returns-3)

@@ -1,0 +1,72 @@
+// A bit reader that keeps a payload and its place together, above the plain one.
+ghost use mathlib.Core.Path.{_≡_};
+ghost use Prim.Native.Nat.{_≤_, _*_};
+ghost use lib.ListN.{length};
+ghost use Rattle.bit_reader.specs.Took.{lastPlace, tookAt};
+use bits::Field;
+
+// The payload, and the place of the next bit.
+pub struct BitReader<'a> {
+    pub src: &'a [u8],
+    pub at: usize,
+}
+
+// A field that was taken: number 0, its value and the next place; or a refusal's number, 0 and the place as it was.
+pub struct Took {
+    pub number: u8,
+    pub value: u32,
+    pub next: usize,
+}
+
+// The place after the last bit.
+fn last_place(src: &[u8]) -> usize
+    ensures { λ r. ⌜ (r ≡ lastPlace (now (src .entry))) × (r ≤ 8 * length (now (src .entry))) ⌝ }
+{
+    if 2305843009213693951 < src.len() {
+        return 18446744073709551615;
+    }
+    8 * src.len()
+}
+
+// The field of n bits at a place of a payload.
+pub fn took_at(src: &[u8], at: usize, n: usize) -> Took
+    ensures { λ r. ⌜ r ≡ tookAt (now (src .entry)) at n ⌝ }
+{
+    if 20 < n {
+        return Took {
+            number: 10,
+            value: 0,
+            next: at,
+        };
+    }
+    let f = bits::read_field(src, at, last_place(src), n);
+    match f {
+        Field::Got(value, next) => Took {
+            number: 0,
+            value,
+            next,
+        },
+        Field::Refused(number, _) => Took {
+            number,
+            value: 0,
+            next: at,
+        },
+    }
+}
+
+// A reader at the first bit of a payload.
+pub fn hold<'a>(src: &'a [u8]) -> BitReader<'a>
+    ensures { λ r. ⌜ (r .src ≡ src .entry) × (r .at ≡ 0) ⌝ }
+{
+    BitReader { src, at: 0 }
+}
+
+// The next field of n bits is taken, and the reader moved past it; a refusal leaves it where it was.
+pub fn take<'s, 'a>(r: &'s mut BitReader<'a>, n: usize) -> Took
+    ensures { λ t. ⌜ (t ≡ tookAt (now (now (r .entry) .src)) (now (r .entry) .at) n) × (now (r .exit) .src ≡ now (r .entry) .src) × (now (r .exit) .at ≡ t .next) ⌝ }
+{
+    let c = *r;
+    let t = took_at(c.src, c.at, n);
+    r.at = t.next;
+    t
+}

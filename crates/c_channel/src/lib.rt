@@ -1,0 +1,73 @@
+// A channel stream, answered in bytes.
+ghost use mathlib.Core.Path.{_≡_};
+ghost use Prim.Native.Nat.{_≤_};
+ghost use lib.Dec.{ltb};
+ghost use lib.ListN.{length};
+ghost use Rattle.bits.specs.Reader.{pick};
+ghost use Rattle.channel.specs.Promise.{readingOf, linesAfter, factorsAfter, booksAfter};
+ghost use Rattle.c_layout.specs.Bytes.{over};
+ghost use Rattle.c_channel.specs.ReadChannel.{channelBytes, channelCall, channelAnswerAfter};
+use c_layout::bytes;
+use c_layout::calls::call_refusal;
+use channel::Reading;
+
+// An index as the reader takes it; one that is too large is none.
+fn narrow(index: u32) -> u8
+    ensures { λ r. ⌜ r ≡ pick (ltb index 256) index 0 ⌝ }
+{
+    if index < 256 {
+        return index as u8;
+    }
+    0
+}
+
+// The windows of each group are put where they stand.
+fn put_groups(answer: &mut [u8], groups: [u8; 8])
+    requires { ⌜ 17 ≤ length (now answer) ⌝ }
+    ensures { λ _. ⌜ (now (answer .exit) ≡ over (now (answer .entry)) 9 groups) × (length groups ≡ 8) ⌝ }
+{
+    bytes::put(answer, 9, &groups);
+}
+
+// A reading is put at the front of a lent answer.
+fn put_reading(answer: &mut [u8], r: Reading)
+    requires { ⌜ 17 ≤ length (now answer) ⌝ }
+    ensures { λ _. ⌜ now (answer .exit) ≡ over (now (answer .entry)) 0 (channelBytes r) ⌝ }
+{
+    let word = bytes::word_of(r.bits);
+    bytes::put(answer, 0, &word);
+    let head = [r.gain, r.sequence, r.shape, r.max_sfb, r.group_count];
+    bytes::put(answer, 4, &head);
+    let groups = r.groups;
+    put_groups(answer, groups);
+}
+
+// The channel stream in the bytes from start to end of a buffer, for a sampling index: the lent outputs and the lent answer get its numbers.
+#[no_mangle]
+pub extern "C" fn oarcradler_read_channel(
+    buf: &[u8],
+    start: u32,
+    end: u32,
+    index: u32,
+    lines: &mut [i16],
+    factors: &mut [u8],
+    books: &mut [u8],
+    answer: &mut [u8],
+) -> u32
+    ensures { λ r. ⌜ r ≡ readingOf (channelCall (now (buf .entry)) start end index (length (now (lines .entry))) (length (now (factors .entry))) (length (now (books .entry))) (length (now (answer .entry)))) .number ⌝ }
+    ensures { λ r. ⌜ now (lines .exit) ≡ linesAfter (channelCall (now (buf .entry)) start end index (length (now (lines .entry))) (length (now (factors .entry))) (length (now (books .entry))) (length (now (answer .entry)))) (now (lines .entry)) ⌝ }
+    ensures { λ r. ⌜ now (factors .exit) ≡ factorsAfter (channelCall (now (buf .entry)) start end index (length (now (lines .entry))) (length (now (factors .entry))) (length (now (books .entry))) (length (now (answer .entry)))) (now (factors .entry)) ⌝ }
+    ensures { λ r. ⌜ now (books .exit) ≡ booksAfter (channelCall (now (buf .entry)) start end index (length (now (lines .entry))) (length (now (factors .entry))) (length (now (books .entry))) (length (now (answer .entry)))) (now (books .entry)) ⌝ }
+    ensures { λ r. ⌜ now (answer .exit) ≡ channelAnswerAfter (channelCall (now (buf .entry)) start end index (length (now (lines .entry))) (length (now (factors .entry))) (length (now (books .entry))) (length (now (answer .entry)))) (now (answer .entry)) ⌝ }
+{
+    let number = call_refusal(buf.len(), start as usize, end as usize, 17, answer.len());
+    if number != 0 {
+        return number;
+    }
+    let r = channel::read_channel(buf, start, end, narrow(index), lines, factors, books);
+    if r.number != 0 {
+        return r.number as u32;
+    }
+    put_reading(answer, r);
+    0
+}

@@ -1,0 +1,63 @@
+-- 2 where the answer does not fit, then what the header is refused with; else its two words.
+-- Assumes nothing.
+use mathlib.Core.Path.{sym, ap, _∙_}
+use native.Mathlib.Omega.{arith}
+use lib.ListN.{length}
+use borrow.Author.Tests.{le-leb, lt-leb, eq-eqb, ne-eqb}
+use Rattle.c_image.specs.ImageCalls.{imageNumber, imageAnswerAfter}
+use borrow.Author.Needs.{needs}
+use Rattle.c_image.proofs.oarcradler_read_header.Statement.{statement}
+use Rattle.c_image.proofs.oarcradler_read_header.Tie as tie
+
+returns : tie.Need-returns
+unfolding imageNumber imageAnswerAfter
+returns c =
+    let no = lt-leb 8 _ (c .if1 .taken) in
+    (rw no, rw no)
+
+read-header-requires : tie.Need-read-header-requires
+read-header-requires c κs = search needs
+
+cast-result : tie.Need-cast-result
+cast-result c = search needs
+
+returns-2 : tie.Need-returns-2
+unfolding imageNumber imageAnswerAfter
+returns-2 c =
+    let r = c .before .before .before .read-header in
+    let a = c .before .before .before .before .before .before .before .args in
+    let room = le-leb 8 (length (a .answer .now)) (omega arith) in
+    let no = ne-eqb _ 0 (rw (r .ensures) at (c .before .if2 .taken)) in
+    (rw room (ap (λ (z : _). z .number) (r .ensures)), rw (room, no))
+
+cast-put-words : tie.Need-cast-put-words
+cast-put-words c = search needs
+
+put-words-requires : tie.Need-put-words-requires
+put-words-requires c κs = search needs
+
+same-length : tie.Need-same-length
+same-length c = search needs
+
+returns-3 : tie.Need-returns-3
+unfolding imageNumber imageAnswerAfter
+returns-3 c =
+    let r = c .before .before .before .before .before .before .before .read-header in
+    let a = c .before .before .before .before .before .before .before .before .before .before .before .args in
+    let room = le-leb 8 (length (a .answer .now)) (omega arith) in
+    let zero = rw (r .ensures) at (c .before .before .before .before .before .if2 .left) in
+    let yes = eq-eqb _ 0 zero in
+    (rw room (sym zero), rw (room, yes) (c .before .before .put-words .ensures ∙ rw (r .ensures)))
+
+pub oarcradler-read-header-spec : {M : Type 1} → statement M
+oarcradler-read-header-spec =
+    tie.close
+    (tie.spec
+    returns
+    read-header-requires
+    cast-result
+    returns-2
+    cast-put-words
+    put-words-requires
+    same-length
+    returns-3)

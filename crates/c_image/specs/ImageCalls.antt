@@ -1,0 +1,27 @@
+-- An image's header, and the part that a payload is, each answered as two words.
+use Prim.Native.Nat.{ℕ}
+use mathlib.Core.List.{List, _++_}
+use lib.Dec.{leb}
+use lib.ListN.{length}
+use Rattle.bits.specs.Reader.{pick}
+use Rattle.image.specs.Image.{headerOf, partOf}
+use Rattle.c_layout.specs.Bytes.{wordOf}
+use Rattle.c_layout.specs.Calls.{answered}
+
+-- 2, then the header's own
+unfoldable pub imageNumber : List ℕ → ℕ → ℕ
+imageNumber image room = pick (leb 8 room) (headerOf image .number) 2
+
+-- the payload count and the sampling index
+unfoldable pub imageAnswerAfter : List ℕ → List ℕ → List ℕ
+imageAnswerAfter image answer =
+    answered (imageNumber image (length answer)) (wordOf (headerOf image .count) ++ wordOf (headerOf image .index)) answer
+
+-- 2, then the part's own
+unfoldable pub partNumber : List ℕ → ℕ → ℕ → ℕ
+partNumber image k room = pick (leb 8 room) (partOf image k .number) 2
+
+-- where the payload starts and where it ends
+unfoldable pub partAnswerAfter : List ℕ → ℕ → List ℕ → List ℕ
+partAnswerAfter image k answer =
+    answered (partNumber image k (length answer)) (wordOf (partOf image k .start) ++ wordOf (partOf image k .end)) answer

@@ -1,0 +1,85 @@
+-- The word and the three runs of six bytes are put one after another, so they make one run of 22.
+-- Assumes nothing.
+use Prim.Native.Nat.{_≤_}
+use mathlib.Core.Path.{refl, _∙_}
+use native.Mathlib.Omega.{arith}
+use lib.ListN.{length}
+use borrow.Author.Needs.{needs}
+use Rattle.c_layout.specs.Bytes.{wordOf}
+use Rattle.c_layout.specs.ContentsBytes.{headerBytes, frameBytes, extensionBytes, answerHead}
+use Rattle.c_layout.proofs.OverLaws.{Put, put-next}
+use Rattle.c_layout.proofs.answers.put_head.Statement.{statement}
+use Rattle.c_layout.proofs.answers.put_head.Tie as tie
+
+word-of-requires : tie.Need-word-of-requires
+word-of-requires c κs = search needs
+
+slice-aggregate-put : tie.Need-slice-aggregate-put
+slice-aggregate-put c = search needs
+
+put-requires : tie.Need-put-requires
+put-requires c κs = search needs
+
+header-bytes-requires : tie.Need-header-bytes-requires
+header-bytes-requires c κs = search needs
+
+slice-aggregate-put-2 : tie.Need-slice-aggregate-put-2
+slice-aggregate-put-2 c = search needs
+
+put-requires-2 : tie.Need-put-requires-2
+put-requires-2 c κs = search needs
+
+frame-bytes-requires : tie.Need-frame-bytes-requires
+frame-bytes-requires c κs = search needs
+
+slice-aggregate-put-3 : tie.Need-slice-aggregate-put-3
+slice-aggregate-put-3 c = search needs
+
+put-requires-3 : tie.Need-put-requires-3
+put-requires-3 c κs = search needs
+
+extension-bytes-requires : tie.Need-extension-bytes-requires
+extension-bytes-requires c κs = search needs
+
+slice-aggregate-put-4 : tie.Need-slice-aggregate-put-4
+slice-aggregate-put-4 c = search needs
+
+put-requires-4 : tie.Need-put-requires-4
+put-requires-4 c κs = search needs
+
+same-length : tie.Need-same-length
+same-length c = search needs
+
+returns : tie.Need-returns
+unfolding answerHead wordOf
+returns c =
+    let extension = c .before .before in
+    let frame = extension .before .before .before .before .before .before in
+    let header = frame .before .before .before .before .before .before in
+    let word = header .before .before .before .before .before .before in
+    let entry = word .before .before .before .before .before in
+    let s = entry .args .out .now in
+    let long : 22 ≤ length s = entry .pre in
+    let at-4 : Put s 0 (wordOf (entry .args .bits)) 4 (word .put .last .0) = (word .put .ensures ∙ rw (word .before .before .before .word-of .ensures), refl) in
+    let at-10 = put-next s 0 _ 4 (headerBytes (entry .args .contents .header)) 6 at-4 (header .put2 .ensures ∙ rw (header .before .before .before .header-bytes .ensures), refl) (omega arith) in
+    let at-16 = put-next s 0 _ 10 (frameBytes (entry .args .contents .frame)) 6 at-10 (frame .put3 .ensures ∙ rw (frame .before .before .before .frame-bytes .ensures), refl) (omega arith) in
+    put-next s 0 _ 16 (extensionBytes (entry .args .contents .extension)) 6 at-16 (extension .put4 .ensures ∙ rw (extension .before .before .before .extension-bytes .ensures), refl) (omega arith)
+
+pub put-head-spec : {M : Type 1} → statement M
+put-head-spec =
+    tie.close
+    (tie.spec
+    word-of-requires
+    slice-aggregate-put
+    put-requires
+    header-bytes-requires
+    slice-aggregate-put-2
+    put-requires-2
+    frame-bytes-requires
+    slice-aggregate-put-3
+    put-requires-3
+    extension-bytes-requires
+    slice-aggregate-put-4
+    put-requires-4
+    same-length
+    returns)

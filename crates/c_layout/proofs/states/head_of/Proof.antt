@@ -1,0 +1,38 @@
+use borrow.Author.Needs.{needs}
+use Rattle.c_layout.specs.StateBytes.{stateHead}
+use Rattle.c_layout.proofs.states.head_of.Statement.{statement}
+use Rattle.c_layout.proofs.states.head_of.Tie as tie
+
+flag-byte-requires : tie.Need-flag-byte-requires
+flag-byte-requires c κs = search needs
+
+flag-byte-requires-2 : tie.Need-flag-byte-requires-2
+flag-byte-requires-2 c κs = search needs
+
+flag-byte-requires-3 : tie.Need-flag-byte-requires-3
+flag-byte-requires-3 c κs = search needs
+
+byte-of-requires : tie.Need-byte-of-requires
+byte-of-requires c κs = search needs
+
+byte-of-requires-2 : tie.Need-byte-of-requires-2
+byte-of-requires-2 c κs = search needs
+
+flag-byte-requires-4 : tie.Need-flag-byte-requires-4
+flag-byte-requires-4 c κs = search needs
+
+returns : tie.Need-returns
+unfolding stateHead
+returns c = rw (c .before .before .before .before .before .flag-byte .ensures, c .before .before .before .before .flag-byte2 .ensures, c .before .before .before .flag-byte3 .ensures, c .before .before .byte-of .ensures, c .before .byte-of2 .ensures, c .flag-byte4 .ensures)
+
+pub head-of-spec : {M : Type 1} → statement M
+head-of-spec =
+    tie.close
+    (tie.spec
+    flag-byte-requires
+    flag-byte-requires-2
+    flag-byte-requires-3
+    byte-of-requires
+    byte-of-requires-2
+    flag-byte-requires-4
+    returns)

@@ -1,0 +1,33 @@
+-- 2 where the state does not fit; else what `put_state` puts.
+-- Assumes nothing.
+use mathlib.Core.Path.{_∙_}
+use native.Mathlib.Omega.{arith}
+use lib.ListN.{length}
+use borrow.Author.Tests.{le-leb, lt-leb}
+use borrow.Author.Needs.{needs}
+use Rattle.c_stereo.proofs.oarcradler_fresh_state.Statement.{statement}
+use Rattle.c_stereo.proofs.oarcradler_fresh_state.Tie as tie
+
+returns : tie.Need-returns
+returns c =
+    let no = lt-leb 146 _ (c .if1 .taken) in
+    (rw no, rw no)
+
+fresh-requires : tie.Need-fresh-requires
+fresh-requires c κs = search needs
+
+put-state-requires : tie.Need-put-state-requires
+put-state-requires c κs = search needs
+
+same-length : tie.Need-same-length
+same-length c = search needs
+
+returns-2 : tie.Need-returns-2
+returns-2 c =
+    let s = c .before .before .before .before .before .before .before .args .state .now in
+    let room = le-leb 146 (length s) (omega arith) in
+    (rw room, rw room (c .before .before .put-state .ensures ∙ rw (c .before .before .before .fresh .ensures)))
+
+pub oarcradler-fresh-state-spec : {M : Type 1} → statement M
+oarcradler-fresh-state-spec =
+    tie.close (tie.spec returns fresh-requires put-state-requires same-length returns-2)

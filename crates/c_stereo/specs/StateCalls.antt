@@ -1,0 +1,27 @@
+-- A fresh state, and a payload reported missing.
+use Prim.Native.Nat.{ℕ}
+use mathlib.Core.List.{List}
+use lib.Dec.{leb}
+use lib.ListN.{length, set}
+use Rattle.bits.specs.Reader.{pick}
+use Rattle.stereo.specs.State.{fresh}
+use Rattle.c_layout.specs.StateBytes.{stateBytes, soundBytes}
+use Rattle.c_layout.specs.Calls.{answered}
+
+-- 2 where a state does not fit
+abbrev pub freshNumber : List ℕ → ℕ
+freshNumber s = pick (leb 146 (length s)) 0 2
+
+abbrev pub freshAfter : List ℕ → List ℕ
+freshAfter s = answered (freshNumber s) (stateBytes fresh) s
+
+-- out of step, and no other byte touched
+abbrev pub lostBytes : List ℕ → List ℕ
+lostBytes s = set s 5 0
+
+-- refused only with 4
+abbrev pub missingNumber : List ℕ → ℕ
+missingNumber s = pick (soundBytes s) 0 4
+
+abbrev pub missingAfter : List ℕ → List ℕ
+missingAfter s = pick (soundBytes s) (lostBytes s) s

@@ -1,0 +1,76 @@
+// The stereo state and a stereo payload, answered in bytes.
+ghost use mathlib.Core.Path.{_≡_};
+ghost use lib.ListN.{length};
+ghost use Rattle.c_stereo.specs.StateCalls.{freshNumber, freshAfter, missingNumber, missingAfter};
+ghost use Rattle.c_stereo.specs.ReadStereo.{stereoCallRefusal, stereoNumber, stereoStateAfter, stereoAnswerAfter};
+use c_layout::answers;
+use c_layout::calls::call_refusal;
+use c_layout::states;
+
+// The state before any payload is written to the front of a lent state.
+#[no_mangle]
+pub extern "C" fn oarcradler_fresh_state(state: &mut [u8]) -> u32
+    ensures { λ r. ⌜ (r ≡ freshNumber (now (state .entry))) × (now (state .exit) ≡ freshAfter (now (state .entry))) ⌝ }
+{
+    if state.len() < 146 {
+        return 2;
+    }
+    states::put_state(state, stereo::states::fresh());
+    0
+}
+
+// A payload is reported missing: the mark of a lent state is set out of step.
+#[no_mangle]
+pub extern "C" fn oarcradler_report_missing(state: &mut [u8]) -> u32
+    ensures { λ r. ⌜ (r ≡ missingNumber (now (state .entry))) × (now (state .exit) ≡ missingAfter (now (state .entry))) ⌝ }
+{
+    if !states::is_sound_at(state) {
+        return 4;
+    }
+    state[5] = 0;
+    0
+}
+
+// What is judged before any bit of a stereo payload: a refusal's number, or 0.
+fn stereo_call_refusal(state: &[u8], size: usize, start: usize, end: usize, room: usize) -> u32
+    ensures { λ r. ⌜ r ≡ stereoCallRefusal (now (state .entry)) size start end room ⌝ }
+{
+    let number = call_refusal(size, start, end, 582, room);
+    if number != 0 {
+        return number;
+    }
+    if !states::is_sound_at(state) {
+        return 4;
+    }
+    0
+}
+
+// The stereo payload in the bytes from start to end of a buffer: a lent state is moved on, and a lent answer gets its bits and contents.
+#[no_mangle]
+pub extern "C" fn oarcradler_read_stereo(
+    state: &mut [u8],
+    buf: &[u8],
+    start: u32,
+    end: u32,
+    answer: &mut [u8],
+) -> u32
+    ensures { λ r. ⌜ r ≡ stereoNumber (now (state .entry)) (now (buf .entry)) start end (length (now (answer .entry))) ⌝ }
+    ensures { λ r. ⌜ now (state .exit) ≡ stereoStateAfter (now (state .entry)) (now (buf .entry)) start end (length (now (answer .entry))) ⌝ }
+    ensures { λ r. ⌜ now (answer .exit) ≡ stereoAnswerAfter (now (state .entry)) (now (buf .entry)) start end (now (answer .entry)) ⌝ }
+{
+    let first = start as usize;
+    let last = end as usize;
+    let number = stereo_call_refusal(state, buf.len(), first, last, answer.len());
+    if number != 0 {
+        return number;
+    }
+    let before = states::state_at(state);
+    let r = stereo_reader::read_bytes(before, &buf[first..last]);
+    if r.number != 0 {
+        state[5] = 0;
+        return r.number as u32;
+    }
+    states::put_state(state, r.state);
+    answers::put_answer(answer, r.bits, r.contents);
+    0
+}

@@ -1,0 +1,146 @@
+-- The call ends in one of three ways, and `WriteLaws` says of each what its definition gives.
+-- Assumes nothing.
+use mathlib.Core.Path.{_≡_, sym, ap, _∙_}
+use native.Mathlib.Omega.{arith}
+use lib.ListN.{length}
+use Rattle.stereo_writer.specs.Writing.{writtenOver}
+use Rattle.stereo_writer.specs.declared.Written.{Written}
+use Rattle.c_layout.specs.StateBytes.{stateAt}
+use Rattle.c_layout.specs.ContentsBytes.{contentsAt}
+use Rattle.c_writer.specs.WriteStereo.{stereoWriting}
+use Rattle.c_layout.proofs.CallLaws.{sound-long}
+use Rattle.c_writer.proofs.Passed.{write-passed}
+use Rattle.c_writer.proofs.WriteLaws.{call-refused, contents-refused, accepted}
+use borrow.Author.Needs.{needs}
+use Rattle.c_writer.proofs.oarcradler_write_stereo.Statement.{statement}
+use Rattle.c_writer.proofs.oarcradler_write_stereo.Tie as tie
+
+write-call-refusal-requires : tie.Need-write-call-refusal-requires
+write-call-refusal-requires c κs = search needs
+
+same-length : tie.Need-same-length
+same-length c = search needs
+
+returns : tie.Need-returns
+returns c =
+    let j = c .before in
+    let a = j .before .before .before .before .before .args in
+    call-refused (a .state .now) (a .contents .now) (a .out .now) (j .write-call-refusal .result) (j .write-call-refusal .ensures) (c .if1 .taken)
+
+state-at-requires : tie.Need-state-at-requires
+state-at-requires c κs =
+    let j = c .before .before in
+    let a = j .before .before .before .before .before .args in
+    sound-long (a .state .now) (write-passed (a .state .now) (length (a .contents .now)) (sym (j .write-call-refusal .ensures) ∙ c .before .if1 .left) .0)
+
+contents-at-requires : tie.Need-contents-at-requires
+contents-at-requires c κs =
+    let j = c .before .before .before .before in
+    let a = j .before .before .before .before .before .args in
+    write-passed (a .state .now) (length (a .contents .now)) (sym (j .write-call-refusal .ensures) ∙ c .before .before .before .if1 .left) .1
+
+write-requires : tie.Need-write-requires
+write-requires c κs = search needs
+
+cast-result : tie.Need-cast-result
+cast-result c = search needs
+
+same-length-2 : tie.Need-same-length-2
+same-length-2 c = search needs
+
+same-length-3 : tie.Need-same-length-3
+same-length-3 c = search needs
+
+same-length-4 : tie.Need-same-length-4
+same-length-4 c = search needs
+
+returns-2 : tie.Need-returns-2
+returns-2 c =
+    let w = c .before .before .before .before .before in
+    let wanted = w .before .before in
+    let state = wanted .before .before in
+    let tested = state .before .before in
+    let j = tested .before in
+    let a = j .before .before .before .before .before .args in
+    let e = sym (j .write-call-refusal .ensures) ∙ tested .if1 .left in
+    let r : w .write .result ≡ stereoWriting (a .state .now) (a .contents .now) (length (a .out .now)) =
+    w .write .ensures .0 ∙ rw (state .state-at .ensures, wanted .contents-at .ensures) in
+    let out : w .write .last .0 ≡ writtenOver (stereoWriting (a .state .now) (a .contents .now) (length (a .out .now))) (stateAt (a .state .now)) (contentsAt (a .contents .now)) (a .out .now) =
+    w .write .ensures .1 ∙ rw (r, state .state-at .ensures, wanted .contents-at .ensures) in
+    let ends = contents-refused (a .state .now) (a .contents .now) (a .out .now) e (rw r at (c .before .if2 .taken)) in
+    (ap (λ (z : Written). z .number) r ∙ ends .0, (ends .1 .0, (ends .1 .1 .0, out ∙ ends .1 .1 .1)))
+
+put-state-requires : tie.Need-put-state-requires
+put-state-requires c κs =
+    let w = c .before .before .before .before .before in
+    let tested = w .before .before .before .before .before .before in
+    let j = tested .before in
+    let a = j .before .before .before .before .before .args in
+    sound-long (a .state .now) (write-passed (a .state .now) (length (a .contents .now)) (sym (j .write-call-refusal .ensures) ∙ tested .if1 .left) .0)
+
+word-of-requires : tie.Need-word-of-requires
+word-of-requires c κs = search needs
+
+slice-aggregate-put : tie.Need-slice-aggregate-put
+slice-aggregate-put c = search needs
+
+put-requires : tie.Need-put-requires
+put-requires c κs =
+    let w = c .before .before .before .before .before .before .before .before .before .before .before in
+    let tested = w .before .before .before .before .before .before in
+    let j = tested .before in
+    let a = j .before .before .before .before .before .args in
+    let long = write-passed (a .state .now) (length (a .contents .now)) (sym (j .write-call-refusal .ensures) ∙ tested .if1 .left) .1 in
+    let four : length (c .before .before .word-of .result) ≡ 4 = search needs in
+    omega (arith, long)
+
+same-length-5 : tie.Need-same-length-5
+same-length-5 c = search needs
+
+same-length-6 : tie.Need-same-length-6
+same-length-6 c = search needs
+
+same-length-7 : tie.Need-same-length-7
+same-length-7 c = search needs
+
+returns-3 : tie.Need-returns-3
+returns-3 c =
+    let w = c .before .before .before .before .before .before .before .before .before .before .before .before .before .before in
+    let wanted = w .before .before in
+    let state = wanted .before .before in
+    let tested = state .before .before in
+    let j = tested .before in
+    let a = j .before .before .before .before .before .args in
+    let e = sym (j .write-call-refusal .ensures) ∙ tested .if1 .left in
+    let r : w .write .result ≡ stereoWriting (a .state .now) (a .contents .now) (length (a .out .now)) =
+    w .write .ensures .0 ∙ rw (state .state-at .ensures, wanted .contents-at .ensures) in
+    let out : w .write .last .0 ≡ writtenOver (stereoWriting (a .state .now) (a .contents .now) (length (a .out .now))) (stateAt (a .state .now)) (contentsAt (a .contents .now)) (a .out .now) =
+    w .write .ensures .1 ∙ rw (r, state .state-at .ensures, wanted .contents-at .ensures) in
+    let put = c .before .before .before .before .before .before .before .before in
+    let ends = accepted (a .state .now) (a .contents .now) (a .out .now) e (rw r at (put .before .before .if2 .left)) in
+    let bits = c .before .before in
+    (ends .0, (put .put-state .ensures ∙ rw r (ends .1 .0), (bits .put .ensures ∙ rw (bits .before .before .before .word-of .ensures, r) (ends .1 .1 .0), out ∙ ends .1 .1 .1)))
+
+pub oarcradler-write-stereo-spec : {M : Type 1} → statement M
+oarcradler-write-stereo-spec =
+    tie.close
+    (tie.spec
+    write-call-refusal-requires
+    same-length
+    returns
+    state-at-requires
+    contents-at-requires
+    write-requires
+    cast-result
+    same-length-2
+    same-length-3
+    same-length-4
+    returns-2
+    put-state-requires
+    word-of-requires
+    slice-aggregate-put
+    put-requires
+    same-length-5
+    same-length-6
+    same-length-7
+    returns-3)

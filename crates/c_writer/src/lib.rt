@@ -1,0 +1,49 @@
+// A stereo payload, written from contents and a state that are bytes.
+ghost use mathlib.Core.Path.{_≡_};
+ghost use lib.ListN.{length};
+ghost use Rattle.c_writer.specs.WriteStereo.{writeCallRefusal, writeNumber, writeStateAfter, writeContentsAfter, writeOutputAfter};
+use c_layout::answers;
+use c_layout::bytes;
+use c_layout::states;
+use stereo_writer::writing;
+
+// What is judged before contents are written: a refusal's number, or 0.
+fn write_call_refusal(state: &[u8], size: usize) -> u32
+    ensures { λ r. ⌜ r ≡ writeCallRefusal (now (state .entry)) size ⌝ }
+{
+    if !states::is_sound_at(state) {
+        return 4;
+    }
+    if size < 582 {
+        return 40;
+    }
+    0
+}
+
+// Contents are written as a stereo payload to the front of a lent output: a lent state is moved on, and the bits stand before the contents.
+#[no_mangle]
+pub extern "C" fn oarcradler_write_stereo(
+    state: &mut [u8],
+    contents: &mut [u8],
+    out: &mut [u8],
+) -> u32
+    ensures { λ r. ⌜ r ≡ writeNumber (now (state .entry)) (now (contents .entry)) (length (now (out .entry))) ⌝ }
+    ensures { λ r. ⌜ now (state .exit) ≡ writeStateAfter (now (state .entry)) (now (contents .entry)) (length (now (out .entry))) ⌝ }
+    ensures { λ r. ⌜ now (contents .exit) ≡ writeContentsAfter (now (state .entry)) (now (contents .entry)) (length (now (out .entry))) ⌝ }
+    ensures { λ r. ⌜ now (out .exit) ≡ writeOutputAfter (now (state .entry)) (now (contents .entry)) (now (out .entry)) ⌝ }
+{
+    let number = write_call_refusal(state, contents.len());
+    if number != 0 {
+        return number;
+    }
+    let before = states::state_at(state);
+    let wanted = answers::contents_at(contents);
+    let w = writing::write(out, before, wanted);
+    if w.number != 0 {
+        return w.number as u32;
+    }
+    states::put_state(state, w.state);
+    let bits = bytes::word_of(w.bits);
+    bytes::put(contents, 0, &bits);
+    0
+}

@@ -1,0 +1,70 @@
+use Prim.Native.Nat.{_-_, _≤_}
+use mathlib.Core.Path.{_≡_, refl}
+use native.Mathlib.Omega.{arith}
+use native.Mathlib.Numerals.{add-one}
+use borrow.Author.Needs.{needs}
+use mir.Syntax.{w16}
+use mir.ValLaws.{toZ-ofZ}
+use Rattle.channel_lines.specs.Spectrum.{put}
+use Rattle.channel_lines.proofs.lines.put_values.Statement.{statement}
+use Rattle.channel_lines.proofs.lines.put_values.Tie as tie
+
+abbrev Inv-loop : tie.InvT-loop
+Inv-loop lines₀ k n values i₀ lines i = (i ≤ n) × (lines ≡ put lines₀ k i values)
+
+abbrev μ-loop : tie.MeasureT-loop
+μ-loop lines₀ k n values i₀ lines i = n - i
+
+loop-holds : tie.Need-loop-holds Inv-loop μ-loop
+unfolding put
+loop-holds c = (omega arith, refl)
+
+mul-lines : tie.Need-mul-lines Inv-loop μ-loop
+mul-lines c = search needs
+
+element-copy-out-lines : tie.Need-element-copy-out-lines Inv-loop μ-loop
+element-copy-out-lines c = search needs
+
+add-t11 : tie.Need-add-t11 Inv-loop μ-loop
+add-t11 c = search needs
+
+mul-t12 : tie.Need-mul-t12 Inv-loop μ-loop
+mul-t12 c = search needs
+
+element-set-from-lines : tie.Need-element-set-from-lines Inv-loop μ-loop
+element-set-from-lines c = search needs
+
+add-i : tie.Need-add-i Inv-loop μ-loop
+add-i c = search needs
+
+loop-less : tie.Need-loop-less Inv-loop μ-loop
+loop-less c = search needs
+
+loop-again : tie.Need-loop-again Inv-loop μ-loop
+unfolding put
+loop-again c =
+    let l = c .before .before .loop in
+    (omega arith, rw (toZ-ofZ w16 _ (record { sfits = c .lines .given }), add-one, l .inv .1))
+
+returns : tie.Need-returns Inv-loop μ-loop
+returns c =
+    let l = c .before .loop in
+    let q : l .i ≡ c .before .before .args .n = omega arith in
+    rw (← q) (l .inv .1)
+
+pub put-values-spec : {M : Type 1} → statement M
+put-values-spec =
+    tie.close
+    (tie.spec
+    Inv-loop
+    μ-loop
+    loop-holds
+    mul-lines
+    element-copy-out-lines
+    add-t11
+    mul-t12
+    element-set-from-lines
+    add-i
+    loop-less
+    loop-again
+    returns)

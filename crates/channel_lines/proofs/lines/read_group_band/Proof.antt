@@ -1,0 +1,60 @@
+use mathlib.Core.Path.{sym}
+use native.Mathlib.Omega.{arith}
+use native.Mathlib.Numerals.{add-one}
+use Rattle.channel_lines.proofs.SpectrumLaws.{group-band}
+use borrow.Author.Needs.{needs}
+use Rattle.channel_lines.proofs.lines.read_group_band.Statement.{statement}
+use Rattle.channel_lines.proofs.lines.read_group_band.Tie as tie
+
+add-book : tie.Need-add-book
+add-book c = search needs
+
+element-copy-out-book : tie.Need-element-copy-out-book
+element-copy-out-book c = search needs
+
+mul-first : tie.Need-mul-first
+mul-first c = search needs
+
+shared-slice-read-first : tie.Need-shared-slice-read-first
+shared-slice-read-first c = search needs
+
+add-width : tie.Need-add-width
+add-width c = search needs
+
+mul-width : tie.Need-mul-width
+mul-width c = search needs
+
+shared-slice-read-width : tie.Need-shared-slice-read-width
+shared-slice-read-width c = search needs
+
+sub-width : tie.Need-sub-width
+sub-width c =
+    let a = c .before .before .before .before .before .before .before .before in
+    rw add-one (a .pre .2 .step (a .args .b) (a .pre .3) .0)
+
+read-windows-requires : tie.Need-read-windows-requires
+read-windows-requires c κs =
+    let a = c .before .before .before .before .before .before .before .before .before in
+    let w = a .pre .2 .step (a .args .b) (a .pre .3) in
+    (a .pre .0, a .pre .1, rw add-one (omega arith))
+
+returns : tie.Need-returns
+returns c =
+    let x = c .before .before .before .before .before .before .before .before .before .before .args in
+    let g = x .group in
+    sym (group-band (x .edges .now) (x .books .now) (g .base) (g .from) (g .windows) (x .b) (x .lines .now) (x .s .now) (x .at) (x .end) (sym (c .read-windows .ensures)))
+
+pub read-group-band-spec : {M : Type 1} → statement M
+read-group-band-spec =
+    tie.close
+    (tie.spec
+    add-book
+    element-copy-out-book
+    mul-first
+    shared-slice-read-first
+    add-width
+    mul-width
+    shared-slice-read-width
+    sub-width
+    read-windows-requires
+    returns)

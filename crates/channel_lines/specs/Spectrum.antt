@@ -1,0 +1,47 @@
+-- The lines, in window order: within a group they are sent by band, then window, then line.
+use Prim.Native.Nat.{ℕ, zero, suc, _+_, _*_, _/_}
+use mathlib.Core.List.{List, [], _∷_}
+use lib.Dec.{eqb}
+use lib.ListN.{getD, set, replicate}
+use lib.IntN.{ℤ, pos}
+use Rattle.bits.specs.Reader.{Reader, give, pick, _>>=_}
+use Rattle.bits.specs.Loop.{counted}
+use Rattle.channel_lines.specs.Bands.{firstLine, bandWidth}
+use Rattle.channel_lines.specs.Tuple.{dim, tuple}
+
+-- the first n of some values put in the lines, from line k on
+unfoldable pub put : List ℤ → ℕ → ℕ → List ℤ → List ℤ
+put lines k zero vs = lines
+put lines k (suc n) vs = set (put lines k n vs) (k + n) (getD vs n (pos 0))
+
+-- the t-th word of a band that starts at a line
+unfoldable pub bandWord : ℕ → ℕ → ℕ → List ℤ → Reader (List ℤ)
+bandWord book first t lines = do
+  vs ← tuple book
+  give (put lines (first + t * dim book) (dim book) vs)
+
+-- the lines of a band, of which it has so many; with book 0 none is sent
+unfoldable pub band : ℕ → ℕ → ℕ → List ℤ → Reader (List ℤ)
+band book first width lines = pick (eqb book 0) (give lines) (counted 0 (width / dim book) (bandWord book first) lines)
+
+-- the same band of a window that has 128 lines
+abbrev pub windowBand : ℕ → ℕ → ℕ → ℕ → List ℤ → Reader (List ℤ)
+windowBand book first width v = band book (128 * v + first) width
+
+-- the same band of the n windows from a window on
+unfoldable pub windowsBand : ℕ → ℕ → ℕ → ℕ → ℕ → List ℤ → Reader (List ℤ)
+windowsBand book first width from n = counted from n (windowBand book first width)
+
+-- a band of a group of n windows, whose books start at a base
+unfoldable pub groupBand : List ℕ → List ℕ → ℕ → ℕ → ℕ → ℕ → List ℤ → Reader (List ℤ)
+groupBand edges books base from n b = windowsBand (getD books (base + b) 0) (firstLine edges b) (bandWidth edges b) from n
+
+-- groups of so many windows each, of which the first starts at a window, with its books from a base on
+unfoldable pub groupLines : List ℕ → ℕ → List ℕ → List ℕ → ℕ → ℕ → List ℤ → Reader (List ℤ)
+groupLines edges maxSfb books [] base from lines = give lines
+groupLines edges maxSfb books (n ∷ ns) base from lines =
+    counted 0 maxSfb (groupBand edges books base from n) lines >>= groupLines edges maxSfb books ns (base + maxSfb) (from + n)
+
+-- all lines, by the bands, max_sfb, the books and the groups; from max_sfb up they are 0
+unfoldable pub spectrum : List ℕ → ℕ → List ℕ → List ℕ → Reader (List ℤ)
+spectrum edges maxSfb books groups = groupLines edges maxSfb books groups 0 0 (replicate 1024 (pos 0))

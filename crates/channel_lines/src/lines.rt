@@ -1,0 +1,210 @@
+// The lines of a channel stream, in window order.
+ghost use mathlib.Core.Path.{_≡_};
+ghost use Prim.Native.Nat.{suc, _+_, _*_, _-_, _<_, _≤_};
+ghost use lib.ListN.{length};
+ghost use Rattle.bits.specs.Loop.{counted};
+ghost use Rattle.bits.specs.Answers.{endedAnswer};
+ghost use Rattle.tables.specs.Tables.{Tables};
+ghost use Rattle.channel_lines.specs.Bands.{Rising, top, most};
+ghost use Rattle.channel_lines.specs.Grouping.{groupsOf};
+ghost use Rattle.channel_lines.specs.Spectrum.{put, band, windowsBand, groupBand, groupLines};
+use crate::grouping::group_length;
+use crate::tuple::book_dim;
+use crate::tuple::read_tuple;
+use bits::Ended;
+
+// A group of windows: where its books start, its first window, and how many windows it has.
+pub struct Group {
+    base: usize,
+    from: usize,
+    windows: usize,
+}
+
+// A group by its numbers.
+fn group_at(base: usize, from: usize, windows: usize) -> Group
+    ensures { λ r. ⌜ r ≡ record { base = base; from = from; windows = windows } ⌝ }
+{
+    Group {
+        base,
+        from,
+        windows,
+    }
+}
+
+// The first n of some values are put in the lines, from line k on.
+fn put_values(lines: &mut [i16; 1024], k: usize, n: usize, values: &[i16; 4])
+    requires { ⌜ (k + n ≤ 1024) × (n ≤ 4) ⌝ }
+    ensures { λ _. ⌜ now (lines .exit) ≡ put (now (lines .entry)) k n (now (values .entry)) ⌝ }
+{
+    let mut i = 0;
+    while i < n {
+        lines[k + i] = values[i];
+        i += 1;
+    }
+}
+
+// The lines of a band of one window.
+fn read_band(
+    s: &[u8],
+    at: usize,
+    end: usize,
+    codes: &[u32],
+    lens: &[u8],
+    book: u8,
+    first: usize,
+    width: usize,
+    lines: &mut [i16; 1024],
+) -> Ended
+    requires { ⌜ (end ≤ 8 * length (now s)) × Tables (now codes) (now lens) × (first + width ≤ 1024) ⌝ }
+    ensures { λ r. ⌜ endedAnswer r (now (lines .exit)) ≡ band book first width (now (lines .entry)) (now (s .entry)) at end ⌝ }
+{
+    if book == 0 {
+        return Ended::At(at);
+    }
+    let d = book_dim(book);
+    let n = width / d;
+    let mut place = at;
+    let mut t = 0;
+    while t < n {
+        let mut values = [0i16; 4];
+        let r = read_tuple(s, place, end, codes, lens, book, &mut values);
+        let Ended::At(next) = r else {
+            return r;
+        };
+        put_values(lines, first + t * d, d, &values);
+        place = next;
+        t += 1;
+    }
+    Ended::At(place)
+}
+
+// A band of the n windows from a window on.
+fn read_windows(
+    s: &[u8],
+    at: usize,
+    end: usize,
+    codes: &[u32],
+    lens: &[u8],
+    book: u8,
+    first: usize,
+    width: usize,
+    from: usize,
+    n: usize,
+    lines: &mut [i16; 1024],
+) -> Ended
+    requires { ⌜ (end ≤ 8 * length (now s)) × Tables (now codes) (now lens) × (128 * (from + n) + (first + width) ≤ 1152) ⌝ }
+    ensures { λ r. ⌜ endedAnswer r (now (lines .exit)) ≡ windowsBand book first width from n (now (lines .entry)) (now (s .entry)) at end ⌝ }
+{
+    let mut place = at;
+    let mut v = from;
+    while v < from + n {
+        let r = read_band(
+            s,
+            place,
+            end,
+            codes,
+            lens,
+            book,
+            128 * v + first,
+            width,
+            lines,
+        );
+        let Ended::At(next) = r else {
+            return r;
+        };
+        place = next;
+        v += 1;
+    }
+    Ended::At(place)
+}
+
+// The b-th band of a group of windows.
+fn read_group_band(
+    s: &[u8],
+    at: usize,
+    end: usize,
+    codes: &[u32],
+    lens: &[u8],
+    edges: &[usize],
+    books: &[u8; 120],
+    group: Group,
+    b: usize,
+    lines: &mut [i16; 1024],
+) -> Ended
+    requires { ⌜ (end ≤ 8 * length (now s)) × Tables (now codes) (now lens) × Rising (now edges) (1152 - 128 * (group .from + group .windows)) × (suc b < length (now edges)) × (group .base + b < 120) × (group .from + group .windows ≤ 8) ⌝ }
+    ensures { λ r. ⌜ endedAnswer r (now (lines .exit)) ≡ groupBand (now (edges .entry)) (now (books .entry)) (group .base) (group .from) (group .windows) b (now (lines .entry)) (now (s .entry)) at end ⌝ }
+{
+    let book = books[group.base + b];
+    let first = edges[b];
+    let width = edges[b + 1] - first;
+    let from = group.from;
+    let n = group.windows;
+    read_windows(s, at, end, codes, lens, book, first, width, from, n, lines)
+}
+
+// The lines of a group of windows.
+fn read_group(
+    s: &[u8],
+    at: usize,
+    end: usize,
+    codes: &[u32],
+    lens: &[u8],
+    edges: &[usize],
+    sfbs: usize,
+    books: &[u8; 120],
+    group: Group,
+    lines: &mut [i16; 1024],
+) -> Ended
+    requires { ⌜ (end ≤ 8 * length (now s)) × Tables (now codes) (now lens) × Rising (now edges) (1152 - 128 * (group .from + group .windows)) × (sfbs < length (now edges)) × (group .base + sfbs ≤ 120) × (group .from + group .windows ≤ 8) ⌝ }
+    ensures { λ r. ⌜ endedAnswer r (now (lines .exit)) ≡ counted 0 sfbs (groupBand (now (edges .entry)) (now (books .entry)) (group .base) (group .from) (group .windows)) (now (lines .entry)) (now (s .entry)) at end ⌝ }
+{
+    let mut place = at;
+    let mut b = 0;
+    while b < sfbs {
+        let r = read_group_band(s, place, end, codes, lens, edges, books, group, b, lines);
+        let Ended::At(next) = r else {
+            return r;
+        };
+        place = next;
+        b += 1;
+    }
+    Ended::At(place)
+}
+
+// The lines of all groups: of eight short windows, or of one long one.
+pub fn read_lines(
+    s: &[u8],
+    at: usize,
+    end: usize,
+    codes: &[u32],
+    lens: &[u8],
+    edges: &[usize],
+    short: bool,
+    sfbs: usize,
+    grouping: u8,
+    books: &[u8; 120],
+    lines: &mut [i16; 1024],
+) -> Ended
+    requires { ⌜ (end ≤ 8 * length (now s)) × Tables (now codes) (now lens) × Rising (now edges) (top short) × (sfbs < length (now edges)) × (sfbs ≤ most short) ⌝ }
+    ensures { λ r. ⌜ endedAnswer r (now (lines .exit)) ≡ groupLines (now (edges .entry)) sfbs (now (books .entry)) (groupsOf short grouping) 0 0 (now (lines .entry)) (now (s .entry)) at end ⌝ }
+{
+    if !short {
+        let only = group_at(0, 0, 1);
+        return read_group(s, at, end, codes, lens, edges, sfbs, books, only, lines);
+    }
+    let mut place = at;
+    let mut base = 0;
+    let mut from = 0;
+    while from < 8 {
+        let n = group_length(grouping, from);
+        let group = group_at(base, from, n);
+        let r = read_group(s, place, end, codes, lens, edges, sfbs, books, group, lines);
+        let Ended::At(next) = r else {
+            return r;
+        };
+        place = next;
+        base += sfbs;
+        from += n;
+    }
+    Ended::At(place)
+}

@@ -1,0 +1,102 @@
+-- The reading laws of window information, sections, scale factors and pulses: their parts have them, and the ways of putting readers together keep them.
+-- Assumes nothing.
+use Prim.Native.Nat.{ℕ, zero, suc}
+use mathlib.Core.Path.{_≡_, refl}
+use mathlib.Core.List.{List, [], _∷_}
+use mathlib.Core.Bool.{Bool, true, false}
+use lib.Dec.{leb}
+use lib.IntN.{ℤ, natAbs}
+use native.Mathlib.Omega.{arith}
+use Rattle.bits.specs.Reader.{got, refused, pick}
+use Rattle.bits.proofs.Lawful.{Lawful, never, bind-lawful, give-lawful, refuse-lawful, pick-lawful, expecting-lawful}
+use Rattle.bits.proofs.FieldLaws.{field-lawful, zeroBit-lawful}
+use Rattle.bits.proofs.LoopLaws.{counted-lawful}
+use Rattle.bits.proofs.PlacesLaws.{here-lawful}
+use Rattle.tables.specs.Tables.{wordOf}
+use Rattle.tables.specs.Names.{scaleFactor}
+use Rattle.tables.proofs.Rules.{lawful-at}
+use Rattle.channel_side.specs.Window.{Window, maxSfbOf, groupingOf, window}
+use Rattle.channel_side.specs.Sections.{Covered, increments, sectionLength, section, nextSection, groupSections, groupBooks, sections}
+use Rattle.channel_side.specs.Factors.{Factors, factor, bandFactor, firstFactors, scaleFactors}
+use Rattle.channel_side.specs.Pulses.{Laid, Pulses, pulse, eachPulse, startBand, pulseData, pulses, changed, applyPulse, applyPulses}
+
+ruleset laws = (bind-lawful, give-lawful, refuse-lawful, pick-lawful, expecting-lawful, field-lawful, zeroBit-lawful, counted-lawful, here-lawful)
+
+maxSfbOf-lawful : (index : ℕ) (short : Bool) → Lawful (maxSfbOf index short)
+unfolding maxSfbOf
+maxSfbOf-lawful index short = search laws depth 8
+
+groupingOf-lawful : (short : Bool) → Lawful (groupingOf short)
+unfolding groupingOf
+groupingOf-lawful short = search laws depth 8
+
+pub window-lawful : (index : ℕ) → Lawful (window index)
+unfolding window
+window-lawful index = search (laws, maxSfbOf-lawful, groupingOf-lawful) depth 12
+
+increments-lawful : (k width room n : ℕ) → Lawful (increments k width room n)
+unfolding increments
+increments-lawful zero width room n = refuse-lawful 22
+increments-lawful (suc k) width room n = let ih = increments-lawful k in search laws depth 8
+
+section-lawful : (width maxSfb base turn : ℕ) (x : Covered) → Lawful (nextSection width maxSfb base turn x)
+unfolding nextSection section sectionLength
+section-lawful width maxSfb base turn x = search (laws, increments-lawful) depth 8
+
+group-lawful : (width maxSfb base : ℕ) (books : List ℕ) → Lawful (groupSections width maxSfb base books)
+unfolding groupSections
+group-lawful width maxSfb base books = search (laws, section-lawful) depth 8
+
+groups-lawful : (width maxSfb : ℕ) (ns : List ℕ) (base : ℕ) (books : List ℕ) → Lawful (groupBooks width maxSfb ns base books)
+unfolding groupBooks
+groups-lawful width maxSfb [] base books = give-lawful books
+groups-lawful width maxSfb (n ∷ ns) base books = let ih = groups-lawful width maxSfb ns in search (laws, group-lawful) depth 8
+
+pub sections-lawful : (w : Window) → Lawful (sections w)
+unfolding sections
+sections-lawful w = groups-lawful _ _ _ _ _
+
+word-lawful : Lawful (wordOf scaleFactor)
+word-lawful = lawful-at 0
+
+factor-lawful : (books : List ℕ) (i : ℕ) (x : Factors) → Lawful (bandFactor books i x)
+unfolding bandFactor factor
+factor-lawful books i x = search (laws, word-lawful) depth 8
+
+pub factors-lawful : (gain : ℕ) (w : Window) (books : List ℕ) → Lawful (scaleFactors gain w books)
+unfolding scaleFactors firstFactors
+factors-lawful gain w books = search (laws, factor-lawful) depth 8
+
+pulse-lawful : (k : ℕ) (x : Laid) → Lawful (pulse k x)
+unfolding pulse
+pulse-lawful k x = search laws depth 8
+
+pulseData-lawful : (index : ℕ) → Lawful (pulseData index)
+unfolding pulseData startBand eachPulse
+pulseData-lawful index = search (laws, pulse-lawful) depth 8
+
+pub pulses-lawful : (index : ℕ) (short : Bool) → Lawful (pulses index short)
+unfolding pulses
+pulses-lawful index short = search (laws, pulseData-lawful) depth 8
+
+-- a change of the lines reads nothing
+changed-at : (z : ℤ) (line place : ℕ) (lines : List ℤ) (at next : ℕ) (a : List ℤ) → changed z line place lines at ≡ got a next → at ≡ next
+unfolding changed
+changed-at z line place lines at next a e = go (leb (natAbs z) 8191) _ e
+  where
+    go : (t : Bool) (ls : List ℤ) → pick t (got ls at) (refused 26 place) ≡ got a next → at ≡ next
+    go true ls e = cc
+    go false ls e = never e
+
+apply-lawful : (x : Pulses) (k : ℕ) (lines : List ℤ) → Lawful (applyPulse x k lines)
+unfolding applyPulse
+apply-lawful x k lines = record {
+  within = λ s at end next a h e. let q = changed-at _ _ _ _ at next a e in (omega arith, omega arith);
+  local = λ s t at end h q. refl;
+  stable = λ s at end next end′ a h e l. e;
+  cut = λ s at end next end′ a h e l g. let q = changed-at _ _ _ _ at next a e in absurd (omega arith);
+}
+
+pub applied-lawful : (x : Pulses) (lines : List ℤ) → Lawful (applyPulses x lines)
+unfolding applyPulses
+applied-lawful x lines = counted-lawful (applyPulse x) (apply-lawful x) 0 _ lines

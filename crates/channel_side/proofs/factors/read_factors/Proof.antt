@@ -1,0 +1,76 @@
+use Prim.Native.Nat.{_-_, _≤_}
+use mathlib.Core.Path.{_≡_, sym, _∙_}
+use native.Mathlib.Omega.{arith}
+use borrow.Author.Needs.{needs}
+use Rattle.channel_side.specs.Factors.{firstFactors}
+use Rattle.channel_side.proofs.FactorLaws.{factored-is, rest, rest-start, rest-stop, rest-more, rest-done}
+use Rattle.channel_side.proofs.factors.read_factors.Statement.{statement}
+use Rattle.channel_side.proofs.factors.read_factors.Tie as tie
+
+abbrev Inv-loop : tie.InvT-loop
+Inv-loop s at end codes lens n gain books factors₀ last₀ place₀ i₀ factors last place i =
+    (i ≤ n) × (last ≤ 255) × (firstFactors n gain books factors₀ s at end ≡ rest i n last books factors s place end)
+
+abbrev μ-loop : tie.MeasureT-loop
+μ-loop s at end codes lens n gain books factors₀ last₀ place₀ i₀ factors last place i = n - i
+
+loop-holds : tie.Need-loop-holds Inv-loop μ-loop
+loop-holds c = (omega arith, omega arith, rest-start _ _ _ _ _ _ _)
+
+read-factor-requires : tie.Need-read-factor-requires Inv-loop μ-loop
+read-factor-requires c κs = search needs
+
+enum-known-f : tie.Need-enum-known-f Inv-loop μ-loop
+enum-known-f c = search needs
+
+enum-told : tie.Need-enum-told Inv-loop μ-loop
+enum-told c = search needs
+
+passed-on-requires : tie.Need-passed-on-requires Inv-loop μ-loop
+passed-on-requires c κs = search needs
+
+returns : tie.Need-returns Inv-loop μ-loop
+returns c =
+    let l = c .before .before .before .before .before .before .loop in
+    let x = c .before .before .before .before .before .before .before .before .before .before .args in
+    let e = factored-is _ (c .before .before .before .read-factor .ensures .0) (c .before .enum-told .given .1) in
+    simp (c .passed-on .ensures, c .before .enum-told .given .1) (sym (l .inv .2 ∙ rest-stop (x .n) (l .last) (x .books .now) (l .factors) (x .s .now) (l .place) (x .end) (l .i) _ _ (omega arith) e))
+
+add-i : tie.Need-add-i Inv-loop μ-loop
+add-i c = search needs
+
+loop-less : tie.Need-loop-less Inv-loop μ-loop
+loop-less c = search needs
+
+loop-again : tie.Need-loop-again Inv-loop μ-loop
+loop-again c =
+    let l = c .before .before .before .before .before .before .loop in
+    let x = c .before .before .before .before .before .before .before .before .before .before .args in
+    let e = factored-is _ (c .before .before .before .read-factor .ensures .0) (c .before .f .given .1) in (
+      omega arith,
+      rw (c .before .f .given .1) at (c .before .before .before .read-factor .ensures .1),
+      l .inv .2 ∙ rest-more (x .n) (l .last) (x .books .now) (l .factors) (x .s .now) (l .place) (x .end) (l .i) _ _ _ (omega arith) e,
+    )
+
+returns-2 : tie.Need-returns-2 Inv-loop μ-loop
+returns-2 c =
+    let l = c .before .loop in
+    let x = c .before .before .before .before .before .args in
+    sym (l .inv .2 ∙ rest-done (x .n) (l .last) (x .books .now) (l .factors) (x .s .now) (l .place) (x .end) (l .i) (c .loop-test .left))
+
+pub read-factors-spec : {M : Type 1} → statement M
+read-factors-spec =
+    tie.close
+    (tie.spec
+    Inv-loop
+    μ-loop
+    loop-holds
+    read-factor-requires
+    enum-known-f
+    enum-told
+    passed-on-requires
+    returns
+    add-i
+    loop-less
+    loop-again
+    returns-2)

@@ -1,0 +1,73 @@
+// The scale factors.
+ghost use mathlib.Core.Path.{_≡_};
+ghost use Prim.Native.Nat.{_*_, _≤_, _<_};
+ghost use lib.ListN.{length};
+ghost use Rattle.bits.specs.Answers.{endedAnswer};
+ghost use Rattle.tables.specs.Tables.{Tables};
+ghost use Rattle.channel_side.specs.Answers.{factorAnswer, Small};
+ghost use Rattle.channel_side.specs.Factors.{bandFactor, firstFactors};
+use bits::Ended;
+use bits::Field;
+
+// The scale factor of the i-th band, after the last one; the new last.
+fn read_factor(
+    s: &[u8],
+    at: usize,
+    end: usize,
+    codes: &[u32],
+    lens: &[u8],
+    books: &[u8; 120],
+    i: usize,
+    last: u32,
+    factors: &mut [u8; 120],
+) -> Field
+    requires { ⌜ (end ≤ 8 * length (now s)) × Tables (now codes) (now lens) × (i < 120) × (last ≤ 255) ⌝ }
+    ensures { λ r. ⌜ (factorAnswer r (now (factors .exit)) ≡ bandFactor (now (books .entry)) i (record { last = last; values = now (factors .entry) }) (now (s .entry)) at end) × Small r ⌝ }
+{
+    if books[i] == 0 {
+        return Field::Got(last, at);
+    }
+    let f = tables::readers::scale_factor_word(s, at, end, codes, lens);
+    let Field::Got(entry, next) = f else {
+        return f;
+    };
+    let sum = last + entry;
+    if sum < 60 {
+        return Field::Refused(24, at);
+    }
+    if 315 < sum {
+        return Field::Refused(24, at);
+    }
+    factors[i] = (sum - 60) as u8;
+    Field::Got(sum - 60, next)
+}
+
+// The scale factors of the first n bands, from a gain on.
+pub fn read_factors(
+    s: &[u8],
+    at: usize,
+    end: usize,
+    codes: &[u32],
+    lens: &[u8],
+    n: usize,
+    gain: u32,
+    books: &[u8; 120],
+    factors: &mut [u8; 120],
+) -> Ended
+    requires { ⌜ (end ≤ 8 * length (now s)) × Tables (now codes) (now lens) × (n ≤ 120) × (gain ≤ 255) ⌝ }
+    ensures { λ r. ⌜ endedAnswer r (now (factors .exit)) ≡ firstFactors n gain (now (books .entry)) (now (factors .entry)) (now (s .entry)) at end ⌝ }
+{
+    let mut last = gain;
+    let mut place = at;
+    let mut i = 0;
+    while i < n {
+        let f = read_factor(s, place, end, codes, lens, books, i, last, factors);
+        let Field::Got(v, next) = f else {
+            return bits::passed_on(f);
+        };
+        last = v;
+        place = next;
+        i += 1;
+    }
+    Ended::At(place)
+}

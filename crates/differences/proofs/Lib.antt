@@ -1,6 +1,0 @@
-pub mod KindLaws
-pub mod IndexLaws
-pub mod ArrayLaws
-pub mod RowLaws
-pub mod HeldLaws
-pub mod ReadingLaws

@@ -1,0 +1,67 @@
+-- The tag image: big-endian pairs of bytes, the payload count, the sampling index and the offsets; then the payloads.
+use Prim.Native.Nat.{ℕ, zero, suc, _+_, _*_, _%_}
+use mathlib.Core.List.{List}
+use mathlib.Core.Bool.{Bool, true, _&&_, _||_}
+use lib.Dec.{leb, ltb, eqb}
+use lib.ListN.{length, getD}
+use Rattle.bits.specs.Reader.{pick}
+use Rattle.bits.specs.Payload.{range}
+use Rattle.image.specs.declared.Header.{Header}
+use Rattle.image.specs.declared.Part.{Part}
+
+-- the pair of bytes at a place
+unfoldable pub pairAt : List ℕ → ℕ → ℕ
+pairAt s i = getD s i 0 * 256 + getD s (i + 1) 0
+
+-- the payload count n, the sampling index, and n + 1 offsets
+abbrev pub countOf : List ℕ → ℕ
+countOf s = pairAt s 0
+
+abbrev pub indexOf : List ℕ → ℕ
+indexOf s = pairAt s 2
+
+abbrev pub offsetOf : List ℕ → ℕ → ℕ
+offsetOf s k = pairAt s (2 * k + 4)
+
+-- m offsets from the k-th on are each followed by one that is not before it
+unfoldable pub rising : List ℕ → ℕ → ℕ → Bool
+rising s k zero = true
+rising s k (suc m) = leb (offsetOf s k) (offsetOf s (k + 1)) && rising s (k + 1) m
+
+-- at most 65,535 bytes; the count even and at most 1,024; the pairs all there; the first offset 6 + 2n; offsets never fall; the last
+-- equals the bytes read
+unfoldable pub soundImage : List ℕ → Bool
+soundImage s =
+    leb (length s) 65535 && leb 6 (length s) && eqb (countOf s % 2) 0 && leb (countOf s) 1024 && leb (2 * countOf s + 6) (length s)
+    && eqb (offsetOf s 0) (2 * countOf s + 6) && rising s 0 (countOf s) && eqb (offsetOf s (countOf s)) (length s)
+
+-- the sampling indices that are known
+abbrev pub knownIndex : ℕ → Bool
+knownIndex i = eqb i 3 || eqb i 4 || eqb i 6 || eqb i 7
+
+abbrev pub refusedHeader : ℕ → Header
+refusedHeader n = record { number = n; count = 0; index = 0 }
+
+-- what the header says: 5, then 3
+unfoldable pub headerOf : List ℕ → Header
+headerOf s =
+    pick (soundImage s)
+    (pick (knownIndex (indexOf s)) (record { number = 0; count = countOf s; index = indexOf s }) (refusedHeader 3))
+    (refusedHeader 5)
+
+abbrev pub refusedPart : ℕ → Part
+refusedPart n = record { number = n; start = 0; end = 0 }
+
+-- where the k-th payload stands, of an image whose header says this: the header's refusal; 1 where there is no such payload
+abbrev pub partIn : Header → List ℕ → ℕ → Part
+partIn h s k =
+    pick (eqb (h .number) 0)
+    (pick (ltb k (h .count)) (record { number = 0; start = offsetOf s k; end = offsetOf s (k + 1) }) (refusedPart 1))
+    (refusedPart (h .number))
+
+unfoldable pub partOf : List ℕ → ℕ → Part
+partOf s k = partIn (headerOf s) s k
+
+-- its bytes
+abbrev pub bytesOf : List ℕ → ℕ → List ℕ
+bytesOf s k = range s (offsetOf s k) (offsetOf s (k + 1))

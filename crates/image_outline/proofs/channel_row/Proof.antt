@@ -1,0 +1,94 @@
+-- The outputs that are lent have just the length that is asked, so the reader is the one of `channelIn`; `RowLaws` says its row.
+-- Assumes nothing.
+use mathlib.Core.Path.{_≡_, _∙_}
+use lib.IntN.{pos}
+use lib.ListN.{replicate}
+use Rattle.channel.specs.Promise.{readingOf, linesAfter}
+use Rattle.image_outline.specs.Answers.{channelIn}
+use Rattle.image_outline.proofs.RowLaws.{row-refused, row-accepted}
+use borrow.Author.Needs.{needs}
+use Rattle.image_outline.proofs.channel_row.Statement.{statement}
+use Rattle.image_outline.proofs.channel_row.Tie as tie
+
+no-lines-requires : tie.Need-no-lines-requires
+no-lines-requires c κs = search needs
+
+no-bands-requires : tie.Need-no-bands-requires
+no-bands-requires c κs = search needs
+
+no-bands-requires-2 : tie.Need-no-bands-requires-2
+no-bands-requires-2 c κs = search needs
+
+cast-end : tie.Need-cast-end
+cast-end c = search needs
+
+slice-aggregate-read-channel : tie.Need-slice-aggregate-read-channel
+slice-aggregate-read-channel c = search needs
+
+slice-aggregate-read-channel-2 : tie.Need-slice-aggregate-read-channel-2
+slice-aggregate-read-channel-2 c = search needs
+
+slice-aggregate-read-channel-3 : tie.Need-slice-aggregate-read-channel-3
+slice-aggregate-read-channel-3 c = search needs
+
+read-channel-requires : tie.Need-read-channel-requires
+read-channel-requires c κs = search needs
+
+wide-requires : tie.Need-wide-requires
+wide-requires c κs = search needs
+
+returns : tie.Need-returns
+unfolding channelIn
+returns c =
+    let read = c .before .before .before .before .before .before in
+    let books = read .before .before .before .before in
+    let factors = books .before in
+    let lines = factors .before in
+    let a = lines .before .before .args in
+    let r : read .read-channel .result ≡ readingOf (channelIn (a .index) (a .part .now)) =
+    read .read-channel .ensures .0 ∙ rw (lines .no-lines .ensures, factors .no-bands .ensures, books .no-bands2 .ensures) in
+    row-refused (channelIn (a .index) (a .part .now)) (c .wide .result) (c .wide .ensures .0 ∙ rw r) (rw r at (c .before .if1 .taken))
+
+wide-requires-2 : tie.Need-wide-requires-2
+wide-requires-2 c κs = search needs
+
+slice-aggregate-count-sounding : tie.Need-slice-aggregate-count-sounding
+slice-aggregate-count-sounding c = search needs
+
+count-sounding-requires : tie.Need-count-sounding-requires
+count-sounding-requires c κs = search needs
+
+returns-2 : tie.Need-returns-2
+unfolding channelIn
+returns-2 c =
+    let read = c .before .before .before .before .before .before .before .before in
+    let books = read .before .before .before .before in
+    let factors = books .before in
+    let lines = factors .before in
+    let a = lines .before .before .args in
+    let r : read .read-channel .result ≡ readingOf (channelIn (a .index) (a .part .now)) =
+    read .read-channel .ensures .0 ∙ rw (lines .no-lines .ensures, factors .no-bands .ensures, books .no-bands2 .ensures) in
+    let x = channelIn (a .index) (a .part .now) in
+    let l : read .read-channel .last .1 .1 .1 .1 .0 ≡ linesAfter x (replicate 1024 (pos 0)) =
+    read .read-channel .ensures .1 .0 ∙ rw (lines .no-lines .ensures, factors .no-bands .ensures, books .no-bands2 .ensures) in
+    let row = row-accepted x (rw r at (c .before .before .before .if1 .left)) in
+    rw (c .before .before .wide2 .ensures .0, c .count-sounding .ensures, l, r) row
+
+pub channel-row-spec : {M : Type 1} → statement M
+channel-row-spec =
+    tie.close
+    (tie.spec
+    no-lines-requires
+    no-bands-requires
+    no-bands-requires-2
+    cast-end
+    slice-aggregate-read-channel
+    slice-aggregate-read-channel-2
+    slice-aggregate-read-channel-3
+    read-channel-requires
+    wide-requires
+    returns
+    wide-requires-2
+    slice-aggregate-count-sounding
+    count-sounding-requires
+    returns-2)

@@ -1,0 +1,108 @@
+-- After each turn the rows of so many payloads stand at the front, and the state is the one before the next payload.
+-- Assumes nothing.
+use Prim.Native.Nat.{ℕ, _+_, _*_, _-_, _≤_}
+use mathlib.Core.Path.{_≡_, refl, ap, _∙_}
+use mathlib.Core.List.{List, [], _∷_, _++_}
+use native.Mathlib.Nat.{zero-add}
+use native.Mathlib.Omega.{arith}
+use borrow.Author.Needs.{needs}
+use lib.ListN.{length}
+use Rattle.c_layout.proofs.OverLaws.{Put, put-none, put-next, put-as, put-length}
+use Rattle.image_outline.specs.Answers.{stateBefore}
+use Rattle.image_outline.specs.Outline.{rowsOf}
+use Rattle.image_outline.proofs.OutlineLaws.{part-there, rows-more, state-more}
+use Rattle.image_outline.proofs.fill_rows.Statement.{statement}
+use Rattle.image_outline.proofs.fill_rows.Tie as tie
+
+abbrev Inv-loop : tie.InvT-loop
+Inv-loop image count index rows₀ state₀ k₀ rows state k =
+    (k ≤ count) × (state ≡ stateBefore image k) × (length rows ≡ length rows₀) × Put rows₀ 0 (rowsOf image k) (4 * k) rows
+
+abbrev μ-loop : tie.MeasureT-loop
+μ-loop image count index rows₀ state₀ k₀ rows state k = count - k
+
+fresh-requires : tie.Need-fresh-requires Inv-loop μ-loop
+fresh-requires c κs = search needs
+
+loop-holds : tie.Need-loop-holds Inv-loop μ-loop
+unfolding stateBefore rowsOf
+loop-holds c = (omega arith, c .fresh .ensures, refl, put-none (c .before .before .before .args .rows .now) 0)
+
+part-of-requires : tie.Need-part-of-requires Inv-loop μ-loop
+part-of-requires c κs = search needs
+
+sub-turn-of : tie.Need-sub-turn-of Inv-loop μ-loop
+sub-turn-of c = search needs
+
+part-turn-of-start : tie.Need-part-turn-of-start Inv-loop μ-loop
+part-turn-of-start c = search needs
+
+part-turn-of-end : tie.Need-part-turn-of-end Inv-loop μ-loop
+part-turn-of-end c = search needs
+
+turn-of-requires : tie.Need-turn-of-requires Inv-loop μ-loop
+turn-of-requires c κs = search needs
+
+mul-put-row : tie.Need-mul-put-row Inv-loop μ-loop
+mul-put-row c = search needs
+
+put-row-requires : tie.Need-put-row-requires Inv-loop μ-loop
+put-row-requires c κs = search needs
+
+add-k : tie.Need-add-k Inv-loop μ-loop
+add-k c = search needs
+
+loop-less : tie.Need-loop-less Inv-loop μ-loop
+loop-less c = search needs
+
+loop-again : tie.Need-loop-again Inv-loop μ-loop
+loop-again c =
+    let put = c .before .before .before in
+    let turn = put .before .before .before in
+    let part = turn .before .before in
+    let l = part .before .before .loop in
+    let a = part .before .before .before .before .before .before .args in
+    let pre = part .before .before .before .before .before .before .pre in
+    let there = part-there (a .image .now) (a .count) (a .index) (l .k) (pre .3) (omega arith) in
+    let p = part .part-of .ensures .0 ∙ there in
+    let s = a .image .now in
+    let state : turn .turn-of .result .state ≡ stateBefore s (l .k + 1) = turn .turn-of .ensures .1 ∙ rw (p, l .inv .1) (state-more s (a .count) (a .index) (l .k) (pre .3)) in
+    let row = rw (p, l .inv .1) at (turn .turn-of .ensures .0) in
+    let t = turn .turn-of .result .row in
+    let ys = t .number ∷ t .first ∷ t .second ∷ t .bits ∷ [] in
+    let placed : Put (l .rows) (0 + 4 * l .k) ys 4 (put .put-row .last .0) = rw (zero-add (4 * l .k)) (put .put-row .ensures, refl) in
+    let next = put-next (a .rows .now) 0 (rowsOf s (l .k)) (4 * l .k) ys 4 (l .inv .3) placed (omega arith) in
+    let long = put-length (a .rows .now) 0 _ _ next (omega arith) in
+    let more = ap (λ (z : List ℕ). rowsOf s (l .k) ++ z) row ∙ rows-more s (a .count) (a .index) (l .k) (pre .3) in
+    let few : l .k + 1 ≤ a .count = omega arith in
+    (few, state, long, put-as (a .rows .now) 0 _ _ _ _ next more (omega arith))
+
+same-length : tie.Need-same-length Inv-loop μ-loop
+same-length c = search needs
+
+returns : tie.Need-returns Inv-loop μ-loop
+returns c =
+    let l = c .before .loop in
+    let e : l .k ≡ c .before .before .before .before .before .args .count = omega arith in
+    rw e at (l .inv .3 .0)
+
+pub fill-rows-spec : {M : Type 1} → statement M
+fill-rows-spec =
+    tie.close
+    (tie.spec
+    Inv-loop
+    μ-loop
+    fresh-requires
+    loop-holds
+    part-of-requires
+    sub-turn-of
+    part-turn-of-start
+    part-turn-of-end
+    turn-of-requires
+    mul-put-row
+    put-row-requires
+    add-k
+    loop-less
+    loop-again
+    same-length
+    returns)

@@ -1,0 +1,73 @@
+-- Four stores, one after another, make one run.
+-- Assumes nothing.
+use Prim.Native.Nat.{_+_}
+use native.Mathlib.Omega.{arith}
+use lib.ListN.{set, length-set}
+use Rattle.c_layout.proofs.OverLaws.{put-one, put-next}
+use borrow.Author.Needs.{needs}
+use Rattle.image_outline.proofs.put_row.Statement.{statement}
+use Rattle.image_outline.proofs.put_row.Tie as tie
+
+mul-rows : tie.Need-mul-rows
+mul-rows c = search needs
+
+slice-write-rows : tie.Need-slice-write-rows
+slice-write-rows c = search needs
+
+add-rows : tie.Need-add-rows
+add-rows c = search needs
+
+mul-rows-2 : tie.Need-mul-rows-2
+mul-rows-2 c = search needs
+
+slice-write-rows-2 : tie.Need-slice-write-rows-2
+slice-write-rows-2 c = simp length-set (omega arith)
+
+add-rows-2 : tie.Need-add-rows-2
+add-rows-2 c = search needs
+
+mul-rows-3 : tie.Need-mul-rows-3
+mul-rows-3 c = search needs
+
+slice-write-rows-3 : tie.Need-slice-write-rows-3
+slice-write-rows-3 c = simp length-set (omega arith)
+
+add-rows-3 : tie.Need-add-rows-3
+add-rows-3 c = search needs
+
+mul-rows-4 : tie.Need-mul-rows-4
+mul-rows-4 c = search needs
+
+slice-write-rows-4 : tie.Need-slice-write-rows-4
+slice-write-rows-4 c = simp length-set (omega arith)
+
+same-length : tie.Need-same-length
+same-length c = search needs
+
+returns : tie.Need-returns
+returns c =
+    let s = c .args .rows .now in
+    let at = c .args .at in
+    let row = c .args .row in
+    let first = put-one s at (row .number) (omega arith) in
+    let second = put-next s at _ 1 _ 1 first (put-one (set s at (row .number)) (at + 1) (row .first) (simp length-set (omega arith))) (omega arith) in
+    let third = put-next s at _ 2 _ 1 second (put-one _ (at + 2) (row .second) (simp length-set (omega arith))) (omega arith) in
+    put-next s at _ 3 _ 1 third (put-one _ (at + 3) (row .bits) (simp length-set (omega arith))) (omega arith) .0
+
+pub put-row-spec : {M : Type 1} → statement M
+put-row-spec =
+    tie.close
+    (tie.spec
+    mul-rows
+    slice-write-rows
+    add-rows
+    mul-rows-2
+    slice-write-rows-2
+    add-rows-2
+    mul-rows-3
+    slice-write-rows-3
+    add-rows-3
+    mul-rows-4
+    slice-write-rows-4
+    same-length
+    returns)

@@ -1,0 +1,21 @@
+-- The row and the state are those of the reading.
+-- Assumes nothing.
+use borrow.Author.Needs.{needs}
+use Rattle.image_outline.specs.Answers.{stereoIn}
+use Rattle.image_outline.proofs.stereo_turn.Statement.{statement}
+use Rattle.image_outline.proofs.stereo_turn.Tie as tie
+
+read-requires : tie.Need-read-requires
+read-requires c κs = search needs
+
+wide-requires : tie.Need-wide-requires
+wide-requires c κs = search needs
+
+returns : tie.Need-returns
+unfolding stereoIn
+returns c =
+    let r = c .before .before .before .before .read .ensures in
+    (rw (c .before .wide .ensures .0, r), rw r)
+
+pub stereo-turn-spec : {M : Type 1} → statement M
+stereo-turn-spec = tie.close (tie.spec read-requires wide-requires returns)

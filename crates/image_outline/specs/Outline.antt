@@ -1,0 +1,52 @@
+-- The outline of an image: of each payload, in order, four numbers. An accepted channel stream has 0, its gain, how many of its lines are not
+-- 0, and its bits; an accepted stereo payload has 0, its envelopes, 0, and its bits; a refused payload its number and zeros.
+use Prim.Native.Nat.{ℕ, zero, suc, _+_, _*_}
+use mathlib.Core.List.{List, [], _∷_, _++_}
+use lib.Dec.{eqb, leb}
+use lib.IntN.{ℤ, natAbs}
+use lib.ListN.{length}
+use Rattle.bits.specs.Reader.{Answer, got, refused, pick}
+use Rattle.channel.specs.Stream.{Stream}
+use Rattle.stereo.specs.declared.Reading.{Reading}
+use Rattle.stereo.specs.declared.State.{State}
+use Rattle.image.specs.Image.{bytesOf, refusedHeader, headerOf}
+use Rattle.image.specs.declared.Header.{Header}
+use Rattle.c_layout.specs.Bytes.{over}
+use Rattle.image_outline.specs.Answers.{isEven, channelIn, stereoIn, stateBefore}
+
+-- how many lines are not 0
+unfoldable pub sounding : List ℤ → ℕ
+sounding [] = 0
+sounding (x ∷ xs) = pick (eqb (natAbs x) 0) (sounding xs) (sounding xs + 1)
+
+-- the numbers of a channel stream
+abbrev pub channelRow : Answer Stream → List ℕ
+channelRow (got x bits) = 0 ∷ x .head .gain ∷ sounding (x .coded .lines) ∷ bits ∷ []
+channelRow (refused n place) = n ∷ 0 ∷ 0 ∷ 0 ∷ []
+
+-- the numbers of a stereo payload; a refusal has no contents
+abbrev pub stereoRow : Reading → List ℕ
+stereoRow r = r .number ∷ r .contents .frame .envelopes ∷ 0 ∷ r .bits ∷ []
+
+-- the numbers of the k-th payload, which fills a part, from the state before it
+unfoldable pub rowFrom : State → ℕ → ℕ → List ℕ → List ℕ
+rowFrom st index k part = pick (isEven k) (channelRow (channelIn index part)) (stereoRow (stereoIn st part))
+
+unfoldable pub rowOf : List ℕ → ℕ → List ℕ
+rowOf s k = rowFrom (stateBefore s k) (headerOf s .index) k (bytesOf s k)
+
+-- the rows of the first k payloads
+unfoldable pub rowsOf : List ℕ → ℕ → List ℕ
+rowsOf s zero = []
+rowsOf s (suc k) = rowsOf s k ++ rowOf s k
+
+-- the header's refusal, then 2 where the rows don't fit
+abbrev pub outlineIn : Header → ℕ → Header
+outlineIn h room = pick (eqb (h .number) 0) (pick (leb (4 * h .count) room) h (refusedHeader 2)) h
+
+unfoldable pub outlineOf : List ℕ → ℕ → Header
+outlineOf s room = outlineIn (headerOf s) room
+
+-- the lent rows afterwards: those of each payload from the front on, or what they held
+unfoldable pub rowsAfter : List ℕ → List ℕ → List ℕ
+rowsAfter s rows = pick (eqb (outlineOf s (length rows) .number) 0) (over rows 0 (rowsOf s (headerOf s .count))) rows

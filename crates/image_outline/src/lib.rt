@@ -1,0 +1,167 @@
+// The outline of a tag image: what each payload answers, in order.
+ghost use mathlib.Core.Path.{_≡_};
+ghost use mathlib.Core.List.{[], _∷_};
+ghost use Prim.Native.Nat.{_+_, _*_, _≤_, _<_};
+ghost use lib.IntN.{pos};
+ghost use lib.ListN.{length, replicate};
+ghost use Rattle.image.specs.Image.{headerOf};
+ghost use Rattle.c_layout.specs.Bytes.{over};
+ghost use Rattle.image_outline.specs.Answers.{channelIn, stereoIn, stateFrom};
+ghost use Rattle.image_outline.specs.Outline.{sounding, channelRow, stereoRow, rowFrom, rowsOf, outlineOf, rowsAfter};
+use image::Header;
+use stereo::State;
+use stereo::states;
+
+// The four numbers of a payload: its refusal, or 0, and what it holds.
+pub struct Row {
+    pub number: usize,
+    pub first: usize,
+    pub second: usize,
+    pub bits: usize,
+}
+
+fn wide(x: u8) -> usize
+    ensures { λ r. ⌜ (r ≡ x) × (r < 256) ⌝ }
+{
+    x as usize
+}
+
+// How many lines are not 0.
+fn count_sounding(lines: &[i16]) -> usize
+    ensures { λ r. ⌜ r ≡ sounding (now (lines .entry)) ⌝ }
+{
+    let mut n = 0;
+    let mut i = lines.len();
+    while 0 < i {
+        i -= 1;
+        if lines[i] != 0 {
+            n += 1;
+        }
+    }
+    n
+}
+
+// 1,024 lines of 0.
+fn no_lines() -> [i16; 1024]
+    ensures { λ r. ⌜ r ≡ replicate 1024 (pos 0) ⌝ }
+{
+    [0i16; 1024]
+}
+
+// A 0 for each band.
+fn no_bands() -> [u8; 120]
+    ensures { λ r. ⌜ r ≡ replicate 120 0 ⌝ }
+{
+    [0u8; 120]
+}
+
+// The row of a channel stream that fills a part.
+fn channel_row(part: &[u8], index: u8) -> Row
+    requires { ⌜ length (now part) ≤ 65535 ⌝ }
+    ensures { λ r. ⌜ r .number ∷ r .first ∷ r .second ∷ r .bits ∷ [] ≡ channelRow (channelIn index (now (part .entry))) ⌝ }
+{
+    let mut lines = no_lines();
+    let mut factors = no_bands();
+    let mut books = no_bands();
+    let end = part.len() as u32;
+    let r = channel::read_channel(part, 0, end, index, &mut lines, &mut factors, &mut books);
+    if r.number != 0 {
+        return Row {
+            number: wide(r.number),
+            first: 0,
+            second: 0,
+            bits: 0,
+        };
+    }
+    Row {
+        number: 0,
+        first: wide(r.gain),
+        second: count_sounding(&lines),
+        bits: r.bits,
+    }
+}
+
+// A row is put at a place.
+fn put_row(rows: &mut [usize], at: usize, row: Row)
+    requires { ⌜ at + 4 ≤ length (now rows) ⌝ }
+    ensures { λ _. ⌜ now (rows .exit) ≡ over (now (rows .entry)) at (row .number ∷ row .first ∷ row .second ∷ row .bits ∷ []) ⌝ }
+{
+    rows[at] = row.number;
+    rows[at + 1] = row.first;
+    rows[at + 2] = row.second;
+    rows[at + 3] = row.bits;
+}
+
+// A payload's row, and the stereo state after it.
+struct Turn {
+    row: Row,
+    state: State,
+}
+
+// The row of a stereo payload that fills a part, and the state after it.
+fn stereo_turn(part: &[u8], state: State) -> Turn
+    ensures { λ r. ⌜ (r .row .number ∷ r .row .first ∷ r .row .second ∷ r .row .bits ∷ [] ≡ stereoRow (stereoIn state (now (part .entry)))) × (r .state ≡ stereoIn state (now (part .entry)) .state) ⌝ }
+{
+    let r = stereo_reader::read(state, part, 0, part.len());
+    let contents = r.contents;
+    let frame = contents.frame;
+    let row = Row {
+        number: wide(r.number),
+        first: frame.envelopes,
+        second: 0,
+        bits: r.bits,
+    };
+    let next = r.state;
+    Turn { row, state: next }
+}
+
+// The turn of the k-th payload, an even one a channel stream and an odd one a stereo payload.
+fn turn_of(part: &[u8], k: usize, index: u8, state: State) -> Turn
+    requires { ⌜ length (now part) ≤ 65535 ⌝ }
+    ensures { λ r. ⌜ (r .row .number ∷ r .row .first ∷ r .row .second ∷ r .row .bits ∷ [] ≡ rowFrom state index k (now (part .entry))) × (r .state ≡ stateFrom state k (now (part .entry))) ⌝ }
+{
+    if k % 2 == 0 {
+        let row = channel_row(part, index);
+        return Turn { row, state };
+    }
+    stereo_turn(part, state)
+}
+
+// The rows of an image whose header has this count and index.
+fn fill_rows(image: &[u8], count: usize, index: u8, rows: &mut [usize])
+    requires { ⌜ (length (now image) ≤ 65535) × (count ≤ 1024) × (4 * count ≤ length (now rows)) × (headerOf (now image) ≡ record { number = 0; count = count; index = index }) ⌝ }
+    ensures { λ _. ⌜ now (rows .exit) ≡ over (now (rows .entry)) 0 (rowsOf (now (image .entry)) count) ⌝ }
+{
+    let mut state = states::fresh();
+    let mut k = 0;
+    while k < count {
+        let part = image::part_of(image, k);
+        let start = part.start;
+        let end = part.end;
+        let turn = turn_of(&image[start..end], k, index, state);
+        let row = turn.row;
+        put_row(rows, 4 * k, row);
+        state = turn.state;
+        k += 1;
+    }
+}
+
+// The outline of an image: its header, and in the lent rows four numbers of each payload.
+pub fn read_image(image: &[u8], rows: &mut [usize]) -> Header
+    ensures { λ r. ⌜ (r ≡ outlineOf (now (image .entry)) (length (now (rows .entry)))) × (now (rows .exit) ≡ rowsAfter (now (image .entry)) (now (rows .entry))) ⌝ }
+{
+    let header = image::read_header(image);
+    if header.number != 0 {
+        return header;
+    }
+    let count = header.count;
+    if rows.len() < 4 * count {
+        return Header {
+            number: 2,
+            count: 0,
+            index: 0,
+        };
+    }
+    fill_rows(image, count, header.index, rows);
+    header
+}

@@ -1,1 +1,0 @@
-// A restart is read alike from every state: laws alone.

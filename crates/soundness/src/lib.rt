@@ -1,1 +1,0 @@
-// Soundness of the stereo state: laws alone.

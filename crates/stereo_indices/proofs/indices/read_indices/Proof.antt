@@ -1,0 +1,179 @@
+-- After i turns the first i indices are those that the definition has read, the rest are zeros, and `last` is the one before.
+use Prim.Native.Nat.{ℕ, _-_, _<_, _≤_}
+use mathlib.Core.Path.{_≡_, sym, _∙_, ap}
+use mathlib.Core.Bool.{true}
+use mathlib.Core.List.{List, []}
+use native.Mathlib.Omega.{arith}
+use borrow.Author.Needs.{needs}
+use lib.Dec.{eqb}
+use lib.ListN.{take, getD}
+use lib.IntN.{ℤ, pos, natAbs}
+use mir.Syntax.{w8}
+use mir.Val.{SFits, toZ, ofZ}
+use mir.ValLaws.{toZ-ofZ}
+use denote.Ref.{now}
+use Rattle.bits.specs.Reader.{Answer, got, pick}
+use Rattle.bits.specs.Loop.{counted, more}
+use Rattle.bits.proofs.LoopLaws.{counted-start, counted-more, counted-stop, counted-done, more-got, more-refused}
+use Rattle.bits.proofs.Signed.{fits, thru}
+use Rattle.stereo_indices.specs.Record.{zeros}
+use Rattle.stereo_indices.specs.Kind.{inRange}
+use Rattle.stereo_indices.specs.Answers.{indexAnswer}
+use Rattle.stereo_indices.specs.Indices.{reference, indexFrom, index}
+use Rattle.stereo_indices.proofs.KindLaws.{in-range-abs, pick-fits}
+use Rattle.stereo_indices.proofs.IndexLaws.{index-ranged, indices-got, indices-refused}
+use Rattle.stereo_indices.proofs.ArrayLaws.{Filled, filled-none, filled-set, taken-set, taken-long, filled-padded, last-set}
+use Rattle.stereo_indices.proofs.indices.read_indices.Statement.{statement}
+use Rattle.stereo_indices.proofs.indices.read_indices.Tie as tie
+
+record Inv (f : List ℤ → List ℕ → ℕ → ℕ → Answer ℤ) (s : List ℕ) (at end count : ℕ) (xs : List ℤ) (last : ℤ) (place i : ℕ) : Type 0 where
+  within : i ≤ count
+  few : count ≤ 34
+  filled : Filled 34 (pos 0) i xs
+  small : natAbs last ≤ 15
+  before : last ≡ getD (take i xs) (i - 1) (pos 0)
+  so-far : counted 0 count (more f) [] s at end ≡ counted i (count - i) (more f) (take i xs) s place end
+
+abbrev Inv-loop : tie.InvT-loop
+Inv-loop s at end kind mode time codes lens before count indices₀ last₀ place₀ i₀ indices last place i =
+    Inv (index kind mode time before) s at end count indices (toZ w8 last) place i
+
+abbrev μ-loop : tie.MeasureT-loop
+μ-loop s at end kind mode time codes lens before count indices₀ last₀ place₀ i₀ indices last place i = count - i
+
+bands-requires : tie.Need-bands-requires Inv-loop μ-loop
+bands-requires c κs = search needs
+
+zeros-requires : tie.Need-zeros-requires Inv-loop μ-loop
+zeros-requires c κs = search needs
+
+loop-holds : tie.Need-loop-holds Inv-loop μ-loop
+unfolding zeros
+loop-holds c =
+    let a = c .before .before .before .before .before .args in
+    rw (c .zeros .ensures) (record {
+      within = omega arith;
+      few = c .before .bands .ensures .1;
+      filled = filled-none 34 (pos 0);
+      small = omega arith;
+      before = search needs;
+      so-far = counted-start (more (index (a .kind) (a .mode) (a .time) (a .t7))) (c .before .bands .result) [] (a .s .now) (a .at) (a .end);
+    })
+
+array-copy-out-chosen : tie.Need-array-copy-out-chosen Inv-loop μ-loop
+array-copy-out-chosen c = search needs
+
+chosen-requires : tie.Need-chosen-requires Inv-loop μ-loop
+chosen-requires c κs = search needs
+
+-- the code adds to what the definition adds to
+from-is : (c : tie.After-chosen Inv-loop μ-loop) → let a = c .before .before .before .before .before .before .before .before .before .args in
+    let l = c .before .before .before .loop in
+    toZ w8 (ofZ w8 (c .chosen .result)) ≡ reference (a .time) (a .t7) (take (l .i) (l .indices))
+unfolding reference
+from-is c =
+    let a = c .before .before .before .before .before .before .before .before .before .args in
+    let l = c .before .before .before .loop in
+    let e : SFits w8 (getD (a .t7) (l .i) (pos 0)) = record { sfits = c .before .chosen-arg .given } in
+    let p : SFits w8 (pick (eqb (a .time) 1) (getD (a .t7) (l .i) (pos 0)) (toZ w8 (l .last))) = pick-fits (eqb (a .time) 1) e (fits 15 (l .inv .small) (omega arith)) in
+    let q : c .chosen .result ≡ pick (eqb (a .time) 1) (getD (a .t7) (l .i) (pos 0)) (toZ w8 (l .last)) = rw (toZ-ofZ w8 _ e) at (c .chosen .ensures) in
+    ap (λ (z : ℤ). toZ w8 (ofZ w8 z)) q ∙ toZ-ofZ w8 _ p
+    ∙ rw (taken-long 34 (pos 0) (l .i) (l .indices) (omega arith) (l .inv .filled)) (ap (pick (eqb (a .time) 1) (getD (a .t7) (l .i) (pos 0))) (l .inv .before))
+
+-- and reads what the definition reads
+step-is : (c : tie.After-read-index Inv-loop μ-loop) → let a = c .before .before .before .before .before .before .before .before .before .before .args in
+    let l = c .before .before .before .before .loop in
+    index (a .kind) (a .mode) (a .time) (a .t7) (take (l .i) (l .indices)) (a .s .now) (l .place) (a .end) ≡ indexAnswer (c .read-index .result)
+unfolding index
+step-is c =
+    let a = c .before .before .before .before .before .before .before .before .before .before .args in
+    let l = c .before .before .before .before .loop in
+    ap (λ (z : ℤ). indexFrom (a .kind) (a .mode) (a .time) z (a .s .now) (l .place) (a .end)) (sym (from-is (c .before))) ∙ sym (c .read-index .ensures)
+
+-- an index that was read is in its range
+step-ranged : (c : tie.After-read-index Inv-loop μ-loop) (x : ℤ) (next : ℕ) → let a = c .before .before .before .before .before .before .before .before .before .before .args in
+    let l = c .before .before .before .before .loop in
+    index (a .kind) (a .mode) (a .time) (a .t7) (take (l .i) (l .indices)) (a .s .now) (l .place) (a .end) ≡ got x next → inRange (a .kind) (a .mode) x ≡ true
+unfolding index
+step-ranged c x next q = index-ranged _ _ _ _ _ _ _ x next q
+
+read-index-requires : tie.Need-read-index-requires Inv-loop μ-loop
+read-index-requires c κs = c .before .before .before .before .before .before .before .before .before .pre
+
+enum-known-x : tie.Need-enum-known-x Inv-loop μ-loop
+enum-known-x c = search needs
+
+array-set-from-indices : tie.Need-array-set-from-indices Inv-loop μ-loop
+array-set-from-indices c = search needs
+
+enum-known-number : tie.Need-enum-known-number Inv-loop μ-loop
+enum-known-number c = search needs
+
+returns : tie.Need-returns Inv-loop μ-loop
+returns c =
+    let p = c .before .before .before in
+    let l = p .before .before .before .before .loop in
+    let a = p .before .before .before .before .before .before .before .before .before .before .args in
+    let f = index (a .kind) (a .mode) (a .time) (a .t7) in
+    let n = p .before .before .before .before .before .before .bands .ensures .0 in
+    let q = step-is p ∙ ap indexAnswer (c .before .number .given .1) in
+    let e = l .inv .so-far ∙ counted-stop (more f) (l .i) _ (take (l .i) (l .indices)) (a .s .now) (l .place) (a .end) _ _ (p .before .before .before .loop-test .taken)
+    (more-refused f (l .i) (take (l .i) (l .indices)) (a .s .now) (l .place) (a .end) _ _ q) in
+    indices-refused (a .kind) (a .mode) (a .time) (a .t7) (a .s .now) (a .at) (a .end) _ _ (rw n at e)
+
+add-i : tie.Need-add-i Inv-loop μ-loop
+add-i c = search needs
+
+loop-less : tie.Need-loop-less Inv-loop μ-loop
+loop-less c = search needs
+
+loop-again : tie.Need-loop-again Inv-loop μ-loop
+loop-again c =
+    let p = c .before .before .before in
+    let l = p .before .before .before .before .loop in
+    let a = p .before .before .before .before .before .before .before .before .before .before .args in
+    let f = index (a .kind) (a .mode) (a .time) (a .t7) in
+    let x = c .before .x .given .0 .0 in
+    let q = step-is p ∙ ap indexAnswer (c .before .x .given .1) in
+    let small : natAbs x ≤ 15 = in-range-abs (a .kind) (a .mode) x (step-ranged p x _ q) in
+    let h : l .i < 34 = omega arith in
+    rw (thru w8 15 small (omega arith)) (record {
+      within = omega arith;
+      few = l .inv .few;
+      filled = filled-set 34 (pos 0) (l .i) (l .indices) x (l .inv .filled);
+      small = small;
+      before = sym (last-set 34 (pos 0) (l .i) (l .indices) x (pos 0) h (l .inv .filled));
+      so-far = l .inv .so-far ∙ counted-more (more f) (l .i) _ (take (l .i) (l .indices)) _ (a .s .now) (l .place) (a .end) _ (p .before .before .before .loop-test .taken)
+          (more-got f (l .i) (take (l .i) (l .indices)) x (a .s .now) (l .place) (a .end) _ q ∙ rw (taken-set 34 (pos 0) (l .i) (l .indices) x h (l .inv .filled)));
+    })
+
+returns-2 : tie.Need-returns-2 Inv-loop μ-loop
+returns-2 c =
+    let l = c .before .loop in
+    let a = c .before .before .before .before .before .before .before .args in
+    let f = index (a .kind) (a .mode) (a .time) (a .t7) in
+    let n = c .before .before .before .bands .ensures .0 in
+    let e = l .inv .so-far ∙ counted-done (more f) (l .i) _ (take (l .i) (l .indices)) (a .s .now) (l .place) (a .end) (c .loop-test .left) in
+    ap (λ (xs : List ℤ). got xs (l .place)) (sym (filled-padded 34 (pos 0) (l .i) (l .indices) (omega arith) (l .inv .filled)))
+    ∙ indices-got (a .kind) (a .mode) (a .time) (a .t7) (a .s .now) (a .at) (a .end) _ _ (rw n at e)
+
+pub read-indices-spec : {M : Type 1} → statement M
+read-indices-spec =
+    tie.close
+    (tie.spec
+    Inv-loop
+    μ-loop
+    bands-requires
+    zeros-requires
+    loop-holds
+    array-copy-out-chosen
+    chosen-requires
+    read-index-requires
+    enum-known-x
+    array-set-from-indices
+    enum-known-number
+    returns
+    add-i
+    loop-less
+    loop-again
+    returns-2)

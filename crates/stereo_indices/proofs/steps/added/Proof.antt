@@ -1,0 +1,76 @@
+-- A phase is added modulo 8. Of any other kind no sum passes 218, so 16 bits hold it and the code adds what the definition adds.
+use mir.Syntax.{w8, w16}
+use mir.ValLaws.{toZ-ofZ, toZ-pos}
+use Prim.Native.Nat.{_<_, _+_, _%_, _^_}
+use Rattle.stereo_indices.proofs.KindLaws.{code-difference, code-sum, sum-abs, through, difference-abs}
+use native.Mathlib.Omega.{arith}
+use mathlib.Core.Path.{_∙_, sym}
+use Rattle.bits.proofs.Signed.{fits, wide-fits}
+use Rattle.stereo_indices.specs.Difference.{middle, added}
+use borrow.Author.Needs.{needs}
+use Rattle.stereo_indices.proofs.steps.added.Statement.{statement}
+use Rattle.stereo_indices.proofs.steps.added.Tie as tie
+
+is-phase-requires : tie.Need-is-phase-requires
+is-phase-requires c κs = search needs
+
+magnitude-requires : tie.Need-magnitude-requires
+magnitude-requires c κs = search needs
+
+add-result : tie.Need-add-result
+add-result c = search needs
+
+cast-result : tie.Need-cast-result
+cast-result c = search needs
+
+returns : tie.Need-returns
+unfolding added
+returns c =
+    let a = c .before .before .before in
+    let l : (c .magnitude .result + a .args .entry) % 8 < 2 ^ 15 = omega arith in
+    rw (toZ-pos w16 _ l, c .magnitude .ensures .0, sym (c .before .before .is-phase .ensures) ∙ c .before .if1 .taken, toZ-ofZ w8 _ (a .fits .x))
+
+cast-difference : tie.Need-cast-difference
+cast-difference c = search needs
+
+middle-requires : tie.Need-middle-requires
+middle-requires c κs = search needs
+
+sub-difference : tie.Need-sub-difference
+sub-difference c =
+    let a = c .before .before .before in
+    rw (code-difference (a .args .kind) (a .args .mode) (a .args .entry) _ (a .pre) (c .middle .ensures))
+    (fits 90 (difference-abs (a .args .kind) (a .args .mode) (a .args .entry) (a .pre)) (omega arith))
+
+cast-result-2 : tie.Need-cast-result-2
+cast-result-2 c = wide-fits _ (c .before .before .before .fits .x)
+
+add-result-2 : tie.Need-add-result-2
+add-result-2 c =
+    let a = c .before .before .before in
+    rw (code-sum (a .args .kind) (a .args .mode) (a .args .entry) (a .args .x) _ (a .pre) (a .fits .x) (c .middle .ensures))
+    (fits 218 (sum-abs (a .args .kind) (a .args .mode) (a .args .entry) (a .args .x) (a .pre) (a .fits .x)) (omega arith))
+
+returns-2 : tie.Need-returns-2
+unfolding added
+returns-2 c =
+    let a = c .before .before .before in
+    through w16 218 (code-sum (a .args .kind) (a .args .mode) (a .args .entry) (a .args .x) _ (a .pre) (a .fits .x) (c .middle .ensures))
+    (sum-abs (a .args .kind) (a .args .mode) (a .args .entry) (a .args .x) (a .pre) (a .fits .x)) (omega arith)
+    ∙ rw (sym (c .before .before .is-phase .ensures) ∙ c .before .if1 .left)
+
+pub added-spec : {M : Type 1} → statement M
+added-spec =
+    tie.close
+    (tie.spec
+    is-phase-requires
+    magnitude-requires
+    add-result
+    cast-result
+    returns
+    cast-difference
+    middle-requires
+    sub-difference
+    cast-result-2
+    add-result-2
+    returns-2)

@@ -1,0 +1,123 @@
+-- The word is the definition's, its entry is at most 60, so the sum goes through 16 bits unchanged and the test is the definition's; a sum in the range
+-- fits a byte.
+use Prim.Native.Nat.{_≤_}
+use mir.Val.{toZ, ofZ}
+use Rattle.stereo_indices.specs.Kind.{inRange}
+use denote.Ref.{now}
+use Rattle.bits.specs.Reader.{got}
+use native.Mathlib.Omega.{arith}
+use mathlib.Core.Path.{_≡_, _∙_, sym}
+use mir.Syntax.{w8, w16}
+use mir.ValLaws.{toZ-ofZ}
+use lib.IntN.{natAbs}
+use Rattle.bits.proofs.Taken.{answered}
+use Rattle.bits.proofs.Signed.{fits, thru}
+use Rattle.stereo_indices.specs.Difference.{difference, added}
+use Rattle.stereo_indices.proofs.KindLaws.{entry-le, through, byte-abs, least-abs, most-abs, in-range-abs, added-abs}
+use Rattle.stereo_indices.proofs.IndexLaws.{difference-is, index-got, index-outside, index-refused}
+use borrow.Author.Needs.{needs}
+use Rattle.stereo_indices.proofs.steps.read_index.Statement.{statement}
+use Rattle.stereo_indices.proofs.steps.read_index.Tie as tie
+
+-- the table and the word
+word-is : (c : tie.After-known-told) → let a = c .before .before .before .before .before .before .before .before .args in
+    difference (a .kind) (a .mode) (a .time) (now (a .s)) (a .at) (a .end) ≡ got (c .before .entry .given .0 .0) (c .before .entry .given .0 .1 .0)
+word-is c =
+    let t = c .before .before .before in
+    let d = t .before in
+    difference-is _ _ _ _ _ _ (d .difference-table .result) (d .difference-table .ensures .0) (answered (t .table-word .ensures) (c .before .entry .given .1))
+
+-- entries are few
+entry-small : (c : tie.After-known-told) → c .before .entry .given .0 .0 ≤ 60
+entry-small c =
+    let t = c .before .before .before in
+    let d = t .before in
+    entry-le (d .difference-table .result) _ _ _ _ _ (d .difference-table .ensures .1) (d .difference-table .ensures .2) (answered (t .table-word .ensures) (c .before .entry .given .1))
+
+-- the index that the code adds, and the test that it makes
+added-is : (c : tie.After-added) → let a = c .before .before .before .before .before .before .before .before .before .args in
+    c .added .result ≡ added (a .kind) (a .mode) (a .from) (c .before .before .entry .given .0 .0)
+added-is c =
+    let a = c .before .before .before .before .before .before .before .before .before in
+    rw (toZ-ofZ w8 _ (a .fits .from)) at (c .added .ensures)
+
+added-small : (c : tie.After-added) → let a = c .before .before .before .before .before .before .before .before .before .args in
+    natAbs (added (a .kind) (a .mode) (a .from) (c .before .before .entry .given .0 .0)) ≤ 218
+added-small c =
+    let a = c .before .before .before .before .before .before .before .before .before in
+    added-abs _ _ _ _ (entry-small (c .before)) (byte-abs _ (a .fits .from))
+
+wide : (c : tie.After-added) → let a = c .before .before .before .before .before .before .before .before .before .args in
+    toZ w16 (ofZ w16 (c .added .result)) ≡ added (a .kind) (a .mode) (a .from) (c .before .before .entry .given .0 .0)
+wide c = through w16 218 (added-is c) (added-small c) (omega arith)
+
+tested : (c : tie.After-within) → let a = c .before .before .before .before .before .before .before .before .before .before .before .before .args in
+    c .within .result ≡ inRange (a .kind) (a .mode) (added (a .kind) (a .mode) (a .from) (c .before .before .before .before .before .entry .given .0 .0))
+tested c =
+    let a = c .before .before .before .before .before .before .before .before .before .before .before .before .args in
+    let m = c .before in
+    rw (through w16 15 (m .before .least .ensures) (least-abs (a .kind) (a .mode)) (omega arith), through w16 15 (m .most .ensures) (most-abs (a .kind) (a .mode)) (omega arith), wide (m .before .before)) at (c .within .ensures)
+
+difference-table-requires : tie.Need-difference-table-requires
+difference-table-requires c κs = search needs
+
+table-word-requires : tie.Need-table-word-requires
+table-word-requires c κs = search needs
+
+enum-known-entry : tie.Need-enum-known-entry
+enum-known-entry c = search needs
+
+added-requires : tie.Need-added-requires
+added-requires c κs = entry-small c
+
+least-requires : tie.Need-least-requires
+least-requires c κs = search needs
+
+most-requires : tie.Need-most-requires
+most-requires c κs = search needs
+
+within-requires : tie.Need-within-requires
+within-requires c κs = search needs
+
+cast-t21 : tie.Need-cast-t21
+cast-t21 c =
+    let r = in-range-abs _ _ _ (sym (tested (c .before)) ∙ c .if1 .taken) in
+    rw (wide (c .before .before .before .before)) (fits 15 r (omega arith))
+
+returns : tie.Need-returns
+returns c =
+    let g = sym (tested (c .before)) ∙ c .if1 .taken in
+    let w = c .before .before .before .before in
+    rw (wide w, thru w8 15 (in-range-abs _ _ _ g) (omega arith)) (index-got _ _ _ _ _ _ _ _ _ (word-is (w .before)) g)
+
+enum-known-number : tie.Need-enum-known-number
+enum-known-number c = search needs
+
+returns-2 : tie.Need-returns-2
+returns-2 c =
+    let g = sym (tested (c .before)) ∙ c .if1 .left in
+    let w = c .before .before .before .before in
+    index-outside _ _ _ _ _ _ _ _ _ (word-is (w .before)) g
+
+returns-3 : tie.Need-returns-3
+returns-3 c =
+    let t = c .before .before .before in
+    let d = t .before in
+    index-refused _ _ _ _ _ _ _ _ _ (difference-is _ _ _ _ _ _ (d .difference-table .result) (d .difference-table .ensures .0) (answered (t .table-word .ensures) (c .before .number .given .1)))
+
+pub read-index-spec : {M : Type 1} → statement M
+read-index-spec =
+    tie.close
+    (tie.spec
+    difference-table-requires
+    table-word-requires
+    enum-known-entry
+    added-requires
+    least-requires
+    most-requires
+    within-requires
+    cast-t21
+    returns
+    enum-known-number
+    returns-2
+    returns-3)

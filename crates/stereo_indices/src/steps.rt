@@ -1,0 +1,125 @@
+// One index: the difference of a word added to another index.
+ghost use mathlib.Core.Path.{_≡_};
+ghost use Prim.Native.Nat.{_*_, _≤_};
+ghost use lib.ListN.{length};
+ghost use lib.IntN.{pos, natAbs};
+ghost use Rattle.bits.specs.Answers.{fieldAnswer};
+ghost use Rattle.tables.specs.Tables.{Tables, wordOf};
+ghost use Rattle.tables.specs.Names.{tableAt};
+ghost use Rattle.stereo_indices.specs.Difference.{firstTable, differenceTable, difference, middle, added};
+ghost use Rattle.stereo_indices.specs.Indices.{indexFrom};
+ghost use Rattle.stereo_indices.specs.Answers.{indexAnswer};
+use crate::Index;
+use crate::Kind;
+use crate::kinds;
+use bits::Field;
+
+// The number of a kind's first table.
+fn first_table(kind: Kind, mode: u32) -> usize
+    ensures { λ r. ⌜ (r ≡ firstTable kind mode) × (12 ≤ r) × (r ≤ 20) ⌝ }
+{
+    match kind {
+        Kind::Iid => {
+            if 3 <= mode {
+                return 14;
+            }
+            12
+        }
+        Kind::Icc => 16,
+        Kind::Ipd => 18,
+        Kind::Opd => 20,
+    }
+}
+
+// The number of the table of a kind's differences.
+pub fn difference_table(kind: Kind, mode: u32, time: u32) -> usize
+    ensures { λ r. ⌜ (r ≡ differenceTable kind mode time) × (12 ≤ r) × (r ≤ 21) ⌝ }
+{
+    let first = first_table(kind, mode);
+    if time == 1 {
+        return first + 1;
+    }
+    first
+}
+
+// The word of a difference, by the number of its table.
+fn table_word(s: &[u8], at: usize, end: usize, table: usize, codes: &[u32], lens: &[u8]) -> Field
+    requires { ⌜ (end ≤ 8 * length (now s)) × Tables (now codes) (now lens) × (12 ≤ table) × (table ≤ 21) ⌝ }
+    ensures { λ r. ⌜ fieldAnswer r ≡ wordOf (tableAt table) (now (s .entry)) at end ⌝ }
+{
+    match table {
+        12 => tables::readers::level_default_frequency_word(s, at, end, codes, lens),
+        13 => tables::readers::level_default_time_word(s, at, end, codes, lens),
+        14 => tables::readers::level_fine_frequency_word(s, at, end, codes, lens),
+        15 => tables::readers::level_fine_time_word(s, at, end, codes, lens),
+        16 => tables::readers::coherence_frequency_word(s, at, end, codes, lens),
+        17 => tables::readers::coherence_time_word(s, at, end, codes, lens),
+        18 => tables::readers::phase_frequency_word(s, at, end, codes, lens),
+        19 => tables::readers::phase_time_word(s, at, end, codes, lens),
+        20 => tables::readers::overall_phase_frequency_word(s, at, end, codes, lens),
+        _ => tables::readers::overall_phase_time_word(s, at, end, codes, lens),
+    }
+}
+
+// The entry that is no difference.
+pub fn middle(kind: Kind, mode: u32) -> i16
+    ensures { λ r. ⌜ r ≡ pos (middle kind mode) ⌝ }
+{
+    match kind {
+        Kind::Iid => kinds::by_grid(mode, 30, 14),
+        Kind::Icc => 7,
+        Kind::Ipd => 0,
+        Kind::Opd => 0,
+    }
+}
+
+// The magnitude of an index.
+pub fn magnitude(x: i8) -> u32
+    ensures { λ r. ⌜ (r ≡ natAbs x) × (r ≤ 128) ⌝ }
+{
+    let wide = x as i16;
+    if wide < 0 {
+        return (0 - wide) as u32;
+    }
+    wide as u32
+}
+
+// An index with the difference of an entry added.
+fn added(kind: Kind, mode: u32, x: i8, entry: u32) -> i16
+    requires { ⌜ entry ≤ 60 ⌝ }
+    ensures { λ r. ⌜ r ≡ added kind mode x entry ⌝ }
+{
+    if kinds::is_phase(kind) {
+        return ((magnitude(x) + entry) % 8) as i16;
+    }
+    let difference = entry as i16 - middle(kind, mode);
+    x as i16 + difference
+}
+
+// The index that a word's difference leads to from another; outside the range it is refused.
+pub fn read_index(
+    s: &[u8],
+    at: usize,
+    end: usize,
+    kind: Kind,
+    mode: u32,
+    time: u32,
+    from: i8,
+    codes: &[u32],
+    lens: &[u8],
+) -> Index
+    requires { ⌜ (end ≤ 8 * length (now s)) × Tables (now codes) (now lens) ⌝ }
+    ensures { λ r. ⌜ indexAnswer r ≡ indexFrom kind mode time from (now (s .entry)) at end ⌝ }
+{
+    let table = difference_table(kind, mode, time);
+    match table_word(s, at, end, table, codes, lens) {
+        Field::Got(entry, next) => {
+            let x = added(kind, mode, from, entry);
+            if kinds::within(kinds::least(kind, mode), kinds::most(kind, mode), x) {
+                return Index::To(x as i8, next);
+            }
+            Index::Refused(32, at)
+        }
+        Field::Refused(number, place) => Index::Refused(number, place),
+    }
+}

@@ -1,0 +1,55 @@
+// The stereo reader over a state that is lent: the caller keeps one state, and each call leaves the next one in it.
+ghost use mathlib.Core.Path.{_≡_};
+ghost use Rattle.stereo.specs.Stereo.{readFrom, missing};
+ghost use Rattle.stereo_lent.specs.Lent.{answerOf, apartOf};
+use stereo::Contents;
+use stereo::State;
+
+// The answer to a payload: the refusal, or 0, how many bits it used, and its contents.
+pub struct Answer {
+    pub number: u8,
+    pub bits: usize,
+    pub contents: Contents,
+}
+
+// The next state, and the answer beside it.
+struct Apart {
+    state: State,
+    answer: Answer,
+}
+
+// A payload read from a state by value, the next state apart from the answer.
+fn read_apart(state: State, bytes: &[u8], start: usize, end: usize) -> Apart
+    ensures { λ r. ⌜ r ≡ apartOf (readFrom state (now (bytes .entry)) start end) ⌝ }
+{
+    let r = stereo_reader::read(state, bytes, start, end);
+    let contents = r.contents;
+    let next = r.state;
+    let answer = Answer {
+        number: r.number,
+        bits: r.bits,
+        contents,
+    };
+    Apart {
+        state: next,
+        answer,
+    }
+}
+
+// A payload in a range of a buffer: what it holds and how many bits it used; the lent state is then the next one.
+pub fn read(state: &mut State, bytes: &[u8], start: usize, end: usize) -> Answer
+    ensures { λ r. ⌜ (r ≡ answerOf (readFrom (now (state .entry)) (now (bytes .entry)) start end)) × (now (state .exit) ≡ readFrom (now (state .entry)) (now (bytes .entry)) start end .state) ⌝ }
+{
+    let a = read_apart(*state, bytes, start, end);
+    *state = a.state;
+    a.answer
+}
+
+// A payload reported missing: the refusal, or 0; the lent state is then the next one.
+pub fn missing(state: &mut State) -> u8
+    ensures { λ r. ⌜ (r ≡ missing (now (state .entry)) .number) × (now (state .exit) ≡ missing (now (state .entry)) .state) ⌝ }
+{
+    let r = stereo_reader::missing(*state);
+    *state = r.state;
+    r.number
+}

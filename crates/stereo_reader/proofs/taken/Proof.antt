@@ -1,0 +1,38 @@
+-- 35 where contents are not accepted; else the state after them is carried from the state that they were read from.
+use borrow.Author.Tests.{not-true, not-false}
+use mathlib.Core.Path.{sym, _∙_}
+use Rattle.stereo.specs.Stereo.{taken}
+use borrow.Author.Needs.{needs}
+use Rattle.stereo_reader.proofs.taken.Statement.{statement}
+use Rattle.stereo_reader.proofs.taken.Tie as tie
+
+is-accepted-requires : tie.Need-is-accepted-requires
+is-accepted-requires c κs = search needs
+
+refused-at-requires : tie.Need-refused-at-requires
+refused-at-requires c κs = search needs
+
+returns : tie.Need-returns
+unfolding taken
+returns c = c .refused-at .ensures ∙ rw (sym (c .before .before .is-accepted .ensures) ∙ not-true _ (c .before .if1 .taken))
+
+read-from-requires : tie.Need-read-from-requires
+read-from-requires c κs = search needs
+
+carried-requires : tie.Need-carried-requires
+carried-requires c κs = search needs
+
+returns-2 : tie.Need-returns-2
+unfolding taken
+returns-2 c = rw (c .carried .ensures, c .before .read-from .ensures, sym (c .before .before .before .is-accepted .ensures) ∙ not-false _ (c .before .before .if1 .left))
+
+pub taken-spec : {M : Type 1} → statement M
+taken-spec =
+    tie.close
+    (tie.spec
+    is-accepted-requires
+    refused-at-requires
+    returns
+    read-from-requires
+    carried-requires
+    returns-2)

@@ -1,0 +1,142 @@
+// The stereo reader: a payload in step or out of step, and a payload reported missing.
+ghost use mathlib.Core.Path.{_≡_};
+ghost use mathlib.Core.Bool.{_||_};
+ghost use Prim.Native.Nat.{min};
+ghost use Rattle.stereo.specs.State.{lost};
+ghost use Rattle.stereo.specs.Stereo.{from, refusal, restart, taken, readBytes, readFrom, missing};
+use bits::Ended;
+use stereo::Contents;
+use stereo::Reading;
+use stereo::Report;
+use stereo::State;
+use stereo::extensions;
+use stereo::payloads;
+use stereo::states;
+use stereo::turns;
+
+// A refusal: every other number is 0.
+fn refused(number: u8, state: State) -> Reading
+    ensures { λ r. ⌜ r ≡ refusal number state ⌝ }
+{
+    let contents = payloads::no_contents();
+    Reading {
+        number,
+        bits: 0,
+        contents,
+        state,
+    }
+}
+
+// A refusal that sets the mark.
+fn refused_at(number: u8, state: State) -> Reading
+    ensures { λ r. ⌜ r ≡ refusal number (lost state) ⌝ }
+{
+    let contents = payloads::no_contents();
+    let mut next = state;
+    next.instep = false;
+    Reading {
+        number,
+        bits: 0,
+        contents,
+        state: next,
+    }
+}
+
+// The state that a payload is read from: out of step the fresh one.
+pub fn read_from(state: State) -> State
+    ensures { λ r. ⌜ r ≡ from state ⌝ }
+{
+    if state.instep {
+        return state;
+    }
+    states::fresh()
+}
+
+// Whether contents are accepted: in step, or where they are a restart.
+pub fn is_accepted(state: State, contents: Contents) -> bool
+    ensures { λ r. ⌜ r ≡ state .instep || restart contents ⌝ }
+{
+    if state.instep {
+        return true;
+    }
+    turns::is_restart(contents)
+}
+
+// Contents that were read: accepted, or 35.
+fn taken(state: State, contents: Contents, bits: usize) -> Reading
+    ensures { λ r. ⌜ r ≡ taken state contents bits ⌝ }
+{
+    if !is_accepted(state, contents) {
+        return refused_at(35, state);
+    }
+    let before = read_from(state);
+    let next = turns::carried(before, contents);
+    Reading {
+        number: 0,
+        bits,
+        contents,
+        state: next,
+    }
+}
+
+// How many bytes are looked at: no payload has more than 1024.
+fn looked_at(size: usize) -> usize
+    ensures { λ r. ⌜ r ≡ min size 1025 ⌝ }
+{
+    if size < 1025 {
+        return size;
+    }
+    1025
+}
+
+// A payload that fills a slice: what it holds, how many bits it used, and the next state.
+pub fn read_bytes(state: State, s: &[u8]) -> Reading
+    ensures { λ r. ⌜ r ≡ readBytes state (now (s .entry)) ⌝ }
+{
+    let codes = tables::codes();
+    let lens = tables::lens();
+    let end = 8 * looked_at(s.len());
+    let before = read_from(state);
+    let read = payloads::read_payload(s, end, before, &codes, &lens);
+    let ended = read.ended;
+    let contents = read.contents;
+    match ended {
+        Ended::At(bits) => {
+            if 7 < extensions::remaining(bits, end) {
+                return refused_at(12, state);
+            }
+            taken(state, contents, bits)
+        }
+        Ended::Refused(number, _) => refused_at(number, state),
+    }
+}
+
+// A payload in a range of a buffer: what it holds, how many bits it used, and the next state.
+pub fn read(state: State, bytes: &[u8], start: usize, end: usize) -> Reading
+    ensures { λ r. ⌜ r ≡ readFrom state (now (bytes .entry)) start end ⌝ }
+{
+    if end < start {
+        return refused(1, state);
+    }
+    if bytes.len() < end {
+        return refused(1, state);
+    }
+    if !states::is_sound(state) {
+        return refused(4, state);
+    }
+    read_bytes(state, &bytes[start..end])
+}
+
+// A payload reported missing.
+pub fn missing(state: State) -> Report
+    ensures { λ r. ⌜ r ≡ missing state ⌝ }
+{
+    if !states::is_sound(state) {
+        return Report { number: 4, state };
+    }
+    let next = states::lost(state);
+    Report {
+        number: 0,
+        state: next,
+    }
+}

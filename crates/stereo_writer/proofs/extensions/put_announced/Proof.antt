@@ -1,0 +1,40 @@
+use Rattle.stereo_writer.proofs.WroteLaws.{wrote-nothing, wrote-then, wrote-as, wrote-most}
+use Rattle.stereo_writer.specs.Spelling.{spellPart}
+use native.Mathlib.Omega.{arith}
+use borrow.Author.Needs.{needs}
+use Rattle.stereo_writer.proofs.extensions.put_announced.Statement.{statement}
+use Rattle.stereo_writer.proofs.extensions.put_announced.Tie as tie
+
+returns : tie.Need-returns
+returns c = wrote-nothing (rw (c .if1 .taken))
+
+put-body-requires : tie.Need-put-body-requires
+put-body-requires c κs = search needs
+
+at-most-seven-requires : tie.Need-at-most-seven-requires
+at-most-seven-requires c κs = search needs
+
+put-field-requires : tie.Need-put-field-requires
+put-field-requires c κs = search needs
+
+same-length : tie.Need-same-length
+same-length c = search needs
+
+returns-2 : tie.Need-returns-2
+unfolding spellPart
+returns-2 c = let b = c .before .before in
+    let s = b .before in
+    let a = s .before .before .before .before in
+    let e = s .at-most-seven .ensures in
+    wrote-as (wrote-then (a .put-body .ensures) (wrote-most {b = 7} (b .put-field .ensures) (omega arith)) (omega arith)) (rw (a .before .before .before .if1 .left, e))
+
+pub put-announced-spec : {M : Type 1} → statement M
+put-announced-spec =
+    tie.close
+    (tie.spec
+    returns
+    put-body-requires
+    at-most-seven-requires
+    put-field-requires
+    same-length
+    returns-2)

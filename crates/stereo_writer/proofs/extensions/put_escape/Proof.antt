@@ -1,0 +1,20 @@
+use Rattle.stereo_writer.proofs.WroteLaws.{wrote-as, wrote-nothing}
+use borrow.Author.Tests.{eq-eqb, ne-eqb}
+use borrow.Author.Needs.{needs}
+use Rattle.stereo_writer.proofs.extensions.put_escape.Statement.{statement}
+use Rattle.stereo_writer.proofs.extensions.put_escape.Tie as tie
+
+put-field-requires : tie.Need-put-field-requires
+put-field-requires c κs = search needs
+
+same-length : tie.Need-same-length
+same-length c = search needs
+
+returns : tie.Need-returns
+returns c = wrote-as (c .before .before .put-field .ensures) (rw (eq-eqb _ _ (c .before .before .before .before .if1 .taken)))
+
+returns-2 : tie.Need-returns-2
+returns-2 c = wrote-nothing (rw (ne-eqb _ _ (c .if1 .left)))
+
+pub put-escape-spec : {M : Type 1} → statement M
+put-escape-spec = tie.close (tie.spec put-field-requires same-length returns returns-2)

@@ -1,0 +1,48 @@
+use Rattle.stereo_writer.proofs.WroteLaws.{wrote-then}
+use Rattle.stereo_writer.specs.Spelling.{spellFields}
+use native.Mathlib.Omega.{arith}
+use borrow.Author.Needs.{needs}
+use Rattle.stereo_writer.proofs.fields.put_fields.Statement.{statement}
+use Rattle.stereo_writer.proofs.fields.put_fields.Tie as tie
+
+put-field-requires : tie.Need-put-field-requires
+put-field-requires c κs = search needs
+
+put-mode-requires : tie.Need-put-mode-requires
+put-mode-requires c κs = search needs
+
+put-field-requires-2 : tie.Need-put-field-requires-2
+put-field-requires-2 c κs = search needs
+
+put-mode-requires-2 : tie.Need-put-mode-requires-2
+put-mode-requires-2 c κs = search needs
+
+put-field-requires-3 : tie.Need-put-field-requires-3
+put-field-requires-3 c κs = search needs
+
+same-length : tie.Need-same-length
+same-length c = search needs
+
+returns : tie.Need-returns
+unfolding spellFields
+returns c = let e = c .before .before in
+    let d = e .before .before .before .before in
+    let k = d .before .before .before .before in
+    let b = k .before .before .before .before in
+    let a = b .before .before .before .before in
+    let four = wrote-then {most = 4} (a .put-field .ensures) (b .put-mode .ensures) (omega arith) in
+    let five = wrote-then {most = 5} four (k .put-field2 .ensures) (omega arith) in
+    let eight = wrote-then {most = 8} five (d .put-mode2 .ensures) (omega arith) in
+    wrote-then eight (e .put-field3 .ensures) (omega arith)
+
+pub put-fields-spec : {M : Type 1} → statement M
+put-fields-spec =
+    tie.close
+    (tie.spec
+    put-field-requires
+    put-mode-requires
+    put-field-requires-2
+    put-mode-requires-2
+    put-field-requires-3
+    same-length
+    returns)

@@ -1,0 +1,36 @@
+use Rattle.stereo_writer.proofs.WroteLaws.{wrote-then, wrote-as, wrote-most}
+use Rattle.stereo_writer.specs.Spelling.{spellHeader}
+use borrow.Author.Tests.{eq-eqb, ne-eqb}
+use native.Mathlib.Omega.{arith}
+use borrow.Author.Needs.{needs}
+use Rattle.stereo_writer.proofs.fields.put_header.Statement.{statement}
+use Rattle.stereo_writer.proofs.fields.put_header.Tie as tie
+
+put-field-requires : tie.Need-put-field-requires
+put-field-requires c κs = search needs
+
+put-fields-requires : tie.Need-put-fields-requires
+put-fields-requires c κs = search needs
+
+same-length : tie.Need-same-length
+same-length c = search needs
+
+returns : tie.Need-returns
+unfolding spellHeader
+returns c = let b = c .before .before in
+    let t = b .before .before in
+    let a = t .before .before .before .before in
+    wrote-as (wrote-then (a .put-field .ensures) (b .put-fields .ensures) (omega arith)) (rw (eq-eqb _ _ (t .if1 .taken)))
+
+same-length-2 : tie.Need-same-length-2
+same-length-2 c = search needs
+
+returns-2 : tie.Need-returns-2
+unfolding spellHeader
+returns-2 c = let a = c .before .before .before .before in
+    wrote-as (wrote-most (a .put-field .ensures) (omega arith)) (rw (ne-eqb _ _ (c .if1 .left)))
+
+pub put-header-spec : {M : Type 1} → statement M
+put-header-spec =
+    tie.close
+    (tie.spec put-field-requires put-fields-requires same-length returns same-length-2 returns-2)

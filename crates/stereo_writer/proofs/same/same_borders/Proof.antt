@@ -1,0 +1,61 @@
+use Rattle.stereo_writer.proofs.ListSame.{SoFar, same-start, same-more, same-stop, same-done}
+use lib.Dec.{eqb}
+use borrow.Author.Tests.{eq-eqb, ne-eqb}
+use borrow.Author.Needs.{needs}
+use native.Mathlib.Omega.{arith}
+use Prim.Native.Nat.{_-_}
+use Rattle.stereo_writer.proofs.same.same_borders.Statement.{statement}
+use Rattle.stereo_writer.proofs.same.same_borders.Tie as tie
+
+abbrev Inv-loop : tie.InvT-loop
+Inv-loop xs ys i₀ i = SoFar eqb 0 4 i xs ys
+
+abbrev μ-loop : tie.MeasureT-loop
+μ-loop xs ys i₀ i = 4 - i
+
+loop-holds : tie.Need-loop-holds Inv-loop μ-loop
+loop-holds c = same-start eqb 0 4 _ _ (search needs) (search needs)
+
+mul-if1 : tie.Need-mul-if1 Inv-loop μ-loop
+mul-if1 c = search needs
+
+array-read-if1 : tie.Need-array-read-if1 Inv-loop μ-loop
+array-read-if1 c = search needs
+
+mul-if1-2 : tie.Need-mul-if1-2 Inv-loop μ-loop
+mul-if1-2 c = search needs
+
+array-read-if1-2 : tie.Need-array-read-if1-2 Inv-loop μ-loop
+array-read-if1-2 c = search needs
+
+returns : tie.Need-returns Inv-loop μ-loop
+returns c = same-stop eqb 0 (c .before .before .loop .inv) (omega arith) (ne-eqb _ _ (c .if1 .taken))
+
+add-i : tie.Need-add-i Inv-loop μ-loop
+add-i c = search needs
+
+loop-less : tie.Need-loop-less Inv-loop μ-loop
+loop-less c = search needs
+
+loop-again : tie.Need-loop-again Inv-loop μ-loop
+loop-again c = same-more eqb 0 (c .before .before .loop .inv) (omega arith) (eq-eqb _ _ (c .if1 .left))
+
+returns-2 : tie.Need-returns-2 Inv-loop μ-loop
+returns-2 c = same-done eqb 0 (c .before .loop .inv) (omega arith)
+
+pub same-borders-spec : {M : Type 1} → statement M
+same-borders-spec =
+    tie.close
+    (tie.spec
+    Inv-loop
+    μ-loop
+    loop-holds
+    mul-if1
+    array-read-if1
+    mul-if1-2
+    array-read-if1-2
+    returns
+    add-i
+    loop-less
+    loop-again
+    returns-2)

@@ -1,0 +1,28 @@
+use borrow.Author.Needs.{needs}
+use Rattle.stereo_writer.proofs.writing.is_read_back.Statement.{statement}
+use Rattle.stereo_writer.proofs.writing.is_read_back.Tie as tie
+
+read-payload-requires : tie.Need-read-payload-requires
+read-payload-requires c κs = search needs
+
+enum-told : tie.Need-enum-told
+enum-told c = search needs
+
+same-contents-requires : tie.Need-same-contents-requires
+same-contents-requires c κs = search needs
+
+enum-told-2 : tie.Need-enum-told-2
+enum-told-2 c = search needs
+
+returns : tie.Need-returns
+returns c = let r = c .before .before .before .before in
+    rw (← (r .read-payload .ensures), c .before .enum-told .given .1) (c .same-contents .ensures)
+
+returns-2 : tie.Need-returns-2
+returns-2 c = let r = c .before .before .before in
+    rw (← (r .read-payload .ensures), c .enum-told2 .given .1)
+
+pub is-read-back-spec : {M : Type 1} → statement M
+is-read-back-spec =
+    tie.close
+    (tie.spec read-payload-requires enum-told same-contents-requires enum-told-2 returns returns-2)

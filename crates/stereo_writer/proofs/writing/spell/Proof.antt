@@ -1,0 +1,70 @@
+use Rattle.bits.specs.Pieces.{total}
+use Rattle.stereo_writer.proofs.WritingLaws.{spelled-can}
+use Rattle.stereo_writer.proofs.WroteLaws.{wrote-length}
+use Rattle.stereo_writer.specs.Spelling.{spelling}
+use Rattle.bits.specs.Packed.{putAll}
+use lib.ListN.{length, length-replicate}
+use Prim.Native.Nat.{ℕ, _≤_}
+use native.Mathlib.Omega.{arith}
+use mathlib.Core.List.{List}
+use mathlib.Core.Path.{_≡_, _∙_, ap}
+use borrow.Author.Needs.{needs}
+use Rattle.stereo_writer.proofs.writing.spell.Statement.{statement}
+use Rattle.stereo_writer.proofs.writing.spell.Tie as tie
+
+codes-requires : tie.Need-codes-requires
+codes-requires c κs = search needs
+
+lens-requires : tie.Need-lens-requires
+lens-requires c κs = search needs
+
+slice-aggregate-put-contents : tie.Need-slice-aggregate-put-contents
+slice-aggregate-put-contents c = search needs
+
+slice-aggregate-put-contents-2 : tie.Need-slice-aggregate-put-contents-2
+slice-aggregate-put-contents-2 c = search needs
+
+put-contents-requires : tie.Need-put-contents-requires
+put-contents-requires c κs = (
+  record { size = ap length (c .before .before .before .before .before .before .pre) ∙ length-replicate {A = ℕ} 1536 0; left = omega arith },
+  (c .before .before .before .before .codes .ensures, c .before .before .before .lens .ensures),
+)
+
+slice-aggregate-is-read-back : tie.Need-slice-aggregate-is-read-back
+slice-aggregate-is-read-back c = search needs
+
+slice-aggregate-is-read-back-2 : tie.Need-slice-aggregate-is-read-back-2
+slice-aggregate-is-read-back-2 c = search needs
+
+is-read-back-requires : tie.Need-is-read-back-requires
+is-read-back-requires c κs = let p = c .before .before .before .before .before .put-contents .ensures in
+    let a = c .before .before .before .before .before .before .before .before .before .before .before .before in
+    let l = wrote-length p ∙ ap length (a .pre) ∙ length-replicate {A = ℕ} 1536 0 in
+    (omega (arith, p .ends, p .short, l), (c .before .before .before .before .before .before .before .before .before .before .codes .ensures, c .before .before .before .before .before .before .before .before .before .lens .ensures))
+
+same-length : tie.Need-same-length
+same-length c = search needs
+
+returns : tie.Need-returns
+returns c = let p = c .before .before .before .before .before .before .put-contents .ensures in
+    let a = c .before .before .before .before .before .before .before .before .before .before .before .before .before in
+    let h = p .holds ∙ ap (λ (l : List ℕ). putAll l 0 (spelling (a .args .state) (a .args .contents))) (a .pre) in
+    let r = c .before .before .before .before .before .before .put-contents .result in
+    let n : r ≡ total (spelling (a .args .state) (a .args .contents)) = omega (arith, p .ends) in
+    let m : r ≤ 10952 = omega (arith, p .ends, p .short) in
+    (n, m, c .is-read-back .ensures ∙ spelled-can (a .args .state) (a .args .contents) h n m, h)
+
+pub spell-spec : {M : Type 1} → statement M
+spell-spec =
+    tie.close
+    (tie.spec
+    codes-requires
+    lens-requires
+    slice-aggregate-put-contents
+    slice-aggregate-put-contents-2
+    put-contents-requires
+    slice-aggregate-is-read-back
+    slice-aggregate-is-read-back-2
+    is-read-back-requires
+    same-length
+    returns)

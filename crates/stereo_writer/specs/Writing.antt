@@ -1,0 +1,46 @@
+-- The stereo writer: refusals in the order 4, 40, 35, 2.
+use Prim.Native.Nat.{ℕ}
+use mathlib.Core.List.{List, _++_}
+use mathlib.Core.Bool.{Bool, _||_}
+use lib.Dec.{eqb, leb}
+use lib.ListN.{drop}
+use Rattle.bits.specs.Reader.{pick}
+use Rattle.bits.specs.Pieces.{total}
+use Rattle.bits.specs.Packed.{bytesFor, packed}
+use Rattle.bits.specs.Writable.{writable}
+use Rattle.stereo.specs.State.{sound}
+use Rattle.stereo.specs.Payload.{payload}
+use Rattle.stereo.specs.Carried.{carried}
+use Rattle.stereo.specs.Stereo.{restart, from}
+use Rattle.stereo.specs.declared.State.{State}
+use Rattle.stereo.specs.declared.Contents.{Contents}
+use Rattle.stereo_writer.specs.declared.Written.{Written}
+use Rattle.stereo_writer.specs.Spelling.{spelling}
+use Rattle.stereo_writer.specs.Same.{sameContents}
+
+-- contents can be written from a state: reading their spelling gives them back
+unfoldable pub canWrite : State → Contents → Bool
+canWrite st = writable sameContents (payload st) (spelling st)
+
+-- a refusal: nothing is written, and the state stays
+abbrev pub unwritten : ℕ → State → Written
+unwritten n st = record { number = n; bits = 0; state = st }
+
+-- contents that can be written, from the state that a payload is read from, into so many bytes
+abbrev pub written : State → Contents → ℕ → Written
+written st c room =
+    pick (leb (bytesFor (total (spelling (from st) c))) room)
+    (record { number = 0; bits = total (spelling (from st) c); state = carried (from st) c })
+    (unwritten 2 st)
+
+-- 4, 40, 35, 2; a success leaves what the reader would hold
+unfoldable pub writing : State → Contents → ℕ → Written
+writing st c room =
+    pick (sound st)
+    (pick (canWrite (from st) c) (pick (st .instep || restart c) (written st c room) (unwritten 35 st)) (unwritten 40 st))
+    (unwritten 4 st)
+
+-- the buffer afterwards: the payload, its last byte filled up with zero bits, and the bytes past it untouched; a refusal leaves it
+unfoldable pub writtenOver : Written → State → Contents → List ℕ → List ℕ
+writtenOver w st c out =
+    pick (eqb (w .number) 0) (packed (spelling (from st) c) ++ drop (bytesFor (total (spelling (from st) c))) out) out

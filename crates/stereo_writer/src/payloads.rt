@@ -1,0 +1,65 @@
+// A payload's contents, put into the scratch array as they are read from a state.
+ghost use mathlib.Core.List.{_++_};
+ghost use Rattle.tables.specs.Tables.{Tables};
+ghost use Rattle.stereo_indices.specs.declared.Kind.the-variants.{Iid};
+ghost use Rattle.stereo_writer.specs.Wrote.{Wrote, Room};
+ghost use Rattle.stereo_writer.specs.Spelling.{spellHeader, spellFrame, spellRows, spelling};
+use crate::extensions::put_extension;
+use crate::fields;
+use crate::rows::put_rows;
+use stereo::Contents;
+use stereo::Setup;
+use stereo::State;
+use stereo::headers;
+use stereo::payloads;
+use stereo_indices::Kind;
+
+// The header, the frame and the levels, from the first bit on.
+fn put_levels(
+    out: &mut [u8],
+    state: State,
+    setup: Setup,
+    contents: Contents,
+    codes: &[u32],
+    lens: &[u8],
+) -> usize
+    requires { ⌜ Room 12288 0 (now out) × Tables (now codes) (now lens) ⌝ }
+    ensures { λ r. ⌜ Wrote 2757 (now (out .entry)) 0 (spellHeader (contents .header) ++ spellFrame (contents .frame) ++ spellRows Iid (setup .iid) (setup .iidmode) (state .iid) (contents .frame .envelopes) (contents .iid)) r (now (out .exit)) ⌝ }
+{
+    let header = contents.header;
+    let a = fields::put_header(out, 0, header);
+    let frame = contents.frame;
+    let b = fields::put_frame(out, a, frame);
+    let n = frame.envelopes;
+    let on = setup.iid;
+    let mode = setup.iidmode;
+    let rows = contents.iid;
+    let rec = state.iid;
+    put_rows(out, b, Kind::Iid, on, mode, rec, n, rows, codes, lens)
+}
+
+// The contents of a payload, from the first bit on.
+pub fn put_contents(
+    out: &mut [u8],
+    state: State,
+    contents: Contents,
+    codes: &[u32],
+    lens: &[u8],
+) -> usize
+    requires { ⌜ Room 12288 0 (now out) × Tables (now codes) (now lens) ⌝ }
+    ensures { λ r. ⌜ Wrote 10952 (now (out .entry)) 0 (spelling state contents) r (now (out .exit)) ⌝ }
+{
+    let before = state.setup;
+    let header = contents.header;
+    let f = headers::setup_after(before, header);
+    let a = put_levels(out, state, f, contents, codes, lens);
+    let frame = contents.frame;
+    let n = frame.envelopes;
+    let rows = contents.icc;
+    let rec = state.icc;
+    let kind = Kind::Icc;
+    let b = put_rows(out, a, kind, f.icc, f.iccmode, rec, n, rows, codes, lens);
+    let records = payloads::phase_records(state);
+    let x = contents.extension;
+    put_extension(out, b, f.ext, f.iidmode, records, n, x, codes, lens)
+}

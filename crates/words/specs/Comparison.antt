@@ -1,0 +1,10 @@
+-- What a word is to a window of bits.
+use Prim.Native.Nat.{ℕ, _-_, _/_, _^_}
+use lib.Dec.{leb, eqb}
+use Rattle.bits.specs.Reader.{pick}
+use Rattle.words.specs.declared.Comparison.{Comparison}
+use Rattle.words.specs.declared.Comparison.the-variants.{Fits, Cut, Neither}
+
+-- the word c of l bits, to the m bits w
+abbrev pub compared : ℕ → ℕ → ℕ → ℕ → Comparison
+compared w m c l = pick (leb l m) (pick (eqb (w / 2 ^ (m - l)) c) Fits Neither) (pick (eqb w (c / 2 ^ (l - m))) Cut Neither)
