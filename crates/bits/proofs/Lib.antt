@@ -13,7 +13,10 @@ pub mod Back
 pub mod PutLaws
 pub mod PackedLaws
 pub mod Exact
-pub mod Copied
+pub mod PaddedLaws
+pub mod OverLaws
+pub mod CallLaws
+pub mod NearLaws
 pub mod Signed
 pub mod Numbered
 pub mod Gives

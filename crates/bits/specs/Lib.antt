@@ -1,3 +1,4 @@
+pub mod Lists
 pub mod Bits
 pub mod Reader
 pub mod Field
@@ -10,3 +11,5 @@ pub mod Spelled
 pub mod Packed
 pub mod Writable
 pub mod Answers
+pub mod Bytes
+pub mod Calls

@@ -1,11 +1,15 @@
 // Bits of a byte slice, most significant first: fields read, and pieces of bits put.
 ghost use mathlib.Core.Path.{_≡_};
-ghost use Prim.Native.Nat.{_*_, _<_, _≤_};
+ghost use Prim.Native.Nat.{_*_, _-_, _<_, _≤_};
 ghost use lib.ListN.{length, getD};
 ghost use Rattle.bits.specs.Bits.{bitsFrom};
-ghost use Rattle.bits.specs.Field.{field};
+ghost use lib.Dec.{leb};
+ghost use Rattle.bits.specs.Reader.{tested};
+ghost use Rattle.bits.specs.Field.{field, zeroBit};
 ghost use Rattle.bits.specs.Answers.{fieldAnswer, passedOn};
 
+pub mod bytes;
+pub mod calls;
 pub mod write;
 
 // What reading a field or a word finds: its value and the next place, or a refusal and the place of the field judged.
@@ -64,4 +68,42 @@ pub fn read_field(s: &[u8], at: usize, end: usize, n: usize) -> Field
         return Field::Refused(10, at);
     }
     Field::Got(bits_at(s, at, n), at + n)
+}
+
+// A field that began at a place, refused where it is above a number.
+pub fn at_most(f: Field, most: u32, number: u8, at: usize) -> Field
+    ensures { λ r. ⌜ fieldAnswer r ≡ tested (fieldAnswer f) number (λ v. leb v most) at ⌝ }
+{
+    let Field::Got(v, _) = f else {
+        return f;
+    };
+    if most < v {
+        return Field::Refused(number, at);
+    }
+    f
+}
+
+// A bit that has to be 0, or is refused.
+pub fn read_unset_bit(s: &[u8], at: usize, end: usize, number: u8) -> Field
+    requires { ⌜ end ≤ 8 * length (now s) ⌝ }
+    ensures { λ r. ⌜ fieldAnswer r ≡ zeroBit number (now (s .entry)) at end ⌝ }
+{
+    let f = read_field(s, at, end, 1);
+    let Field::Got(v, _) = f else {
+        return f;
+    };
+    if v != 0 {
+        return Field::Refused(number, at);
+    }
+    f
+}
+
+// How many bits are left before an end.
+pub fn remaining(at: usize, end: usize) -> usize
+    ensures { λ r. ⌜ r ≡ end - at ⌝ }
+{
+    if end < at {
+        return 0;
+    }
+    end - at
 }

@@ -41,9 +41,5 @@ pub fn copy_out(out: &mut [u8], scratch: &[u8], n: usize)
     requires { ⌜ (n ≤ length (now scratch)) × (n ≤ length (now out)) ⌝ }
     ensures { λ _. ⌜ now (out .exit) ≡ take n (now (scratch .entry)) ++ drop n (now (out .entry)) ⌝ }
 {
-    let mut i = 0;
-    while i < n {
-        out[i] = scratch[i];
-        i += 1;
-    }
+    crate::bytes::put(out, 0, &scratch[..n]);
 }

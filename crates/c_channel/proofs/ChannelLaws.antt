@@ -15,8 +15,8 @@ use Rattle.channel.specs.Stream.{Stream}
 use Rattle.channel.specs.Promise.{known, channel, readingOf, linesAfter, factorsAfter, booksAfter}
 use Rattle.channel.specs.Promise as promise
 use Rattle.channel.specs.declared.Reading.{Reading}
-use Rattle.c_layout.specs.Bytes.{over}
-use Rattle.c_layout.specs.Calls.{callRefusal}
+use Rattle.bits.specs.Bytes.{over}
+use Rattle.bits.specs.Calls.{callRefusal}
 use Rattle.c_channel.specs.ReadChannel.{channelBytes, channelCall, channelAnswerAfter}
 
 -- an index that is too large is unknown, as 0 is

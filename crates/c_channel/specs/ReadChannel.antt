@@ -8,8 +8,8 @@ use Rattle.bits.specs.Reader.{Answer, refused, pick}
 use Rattle.channel.specs.Stream.{Stream}
 use Rattle.channel.specs.Promise.{channel, readingOf}
 use Rattle.channel.specs.declared.Reading.{Reading}
-use Rattle.c_layout.specs.Bytes.{wordOf}
-use Rattle.c_layout.specs.Calls.{callRefusal, answered}
+use Rattle.bits.specs.Bytes.{wordOf}
+use Rattle.bits.specs.Calls.{callRefusal, answered}
 
 unfoldable pub channelBytes : Reading → List ℕ
 channelBytes r = wordOf (r .bits) ++ r .gain ∷ r .sequence ∷ r .shape ∷ r .«max_sfb» ∷ r .«group_count» ∷ [] ++ r .groups

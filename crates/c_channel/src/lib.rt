@@ -5,10 +5,10 @@ ghost use lib.Dec.{ltb};
 ghost use lib.ListN.{length};
 ghost use Rattle.bits.specs.Reader.{pick};
 ghost use Rattle.channel.specs.Promise.{readingOf, linesAfter, factorsAfter, booksAfter};
-ghost use Rattle.c_layout.specs.Bytes.{over};
+ghost use Rattle.bits.specs.Bytes.{over};
 ghost use Rattle.c_channel.specs.ReadChannel.{channelBytes, channelCall, channelAnswerAfter};
-use c_layout::bytes;
-use c_layout::calls::call_refusal;
+use bits::bytes;
+use bits::calls::call_refusal;
 use channel::Reading;
 
 // An index as the reader takes it; one that is too large is none.

@@ -5,8 +5,8 @@ use lib.Dec.{leb}
 use lib.ListN.{length}
 use Rattle.bits.specs.Reader.{pick}
 use Rattle.image.specs.Image.{headerOf, partOf}
-use Rattle.c_layout.specs.Bytes.{wordOf}
-use Rattle.c_layout.specs.Calls.{answered}
+use Rattle.bits.specs.Bytes.{wordOf}
+use Rattle.bits.specs.Calls.{answered}
 
 -- 2, then the header's own
 unfoldable pub imageNumber : List ℕ → ℕ → ℕ

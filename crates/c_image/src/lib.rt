@@ -3,9 +3,9 @@ ghost use mathlib.Core.Path.{_≡_};
 ghost use mathlib.Core.List.{_++_};
 ghost use Prim.Native.Nat.{_≤_};
 ghost use lib.ListN.{length};
-ghost use Rattle.c_layout.specs.Bytes.{wordOf, over};
+ghost use Rattle.bits.specs.Bytes.{wordOf, over};
 ghost use Rattle.c_image.specs.ImageCalls.{imageNumber, imageAnswerAfter, partNumber, partAnswerAfter};
-use c_layout::bytes;
+use bits::bytes;
 
 // Two words are put at the front of a lent answer.
 fn put_words(answer: &mut [u8], first: usize, second: usize)

@@ -1,4 +1,3 @@
-pub mod CallLaws
+pub mod StateLaws
 pub mod EnvelopeLaws
-pub mod OverLaws
 pub mod Turn

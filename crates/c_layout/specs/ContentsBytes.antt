@@ -11,7 +11,8 @@ use Rattle.stereo.specs.declared.Frame.{Frame}
 use Rattle.stereo.specs.declared.Phases.{Phases}
 use Rattle.stereo.specs.declared.Extension.{Extension}
 use Rattle.stereo.specs.declared.Contents.{Contents}
-use Rattle.c_layout.specs.Bytes.{byteOf, wordOf, indicesAt, numbered}
+use Rattle.bits.specs.Bytes.{byteOf, wordOf}
+use Rattle.c_layout.specs.Indices.{indicesAt, numbered}
 
 abbrev pub headerBytes : Header → List ℕ
 headerBytes h =

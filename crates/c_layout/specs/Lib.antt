@@ -1,4 +1,3 @@
-pub mod Bytes
+pub mod Indices
 pub mod StateBytes
 pub mod ContentsBytes
-pub mod Calls

@@ -8,7 +8,8 @@ use lib.ListN.{length, getD}
 use Rattle.stereo_indices.specs.declared.Record.{Record}
 use Rattle.stereo.specs.State.{sound}
 use Rattle.stereo.specs.declared.State.{State}
-use Rattle.c_layout.specs.Bytes.{byteOf, flagByte, indicesAt, numbered}
+use Rattle.bits.specs.Bytes.{byteOf, flagByte}
+use Rattle.c_layout.specs.Indices.{indicesAt, numbered}
 
 -- what stands before the records
 unfoldable pub stateHead : State → List ℕ

@@ -3,9 +3,10 @@ ghost use mathlib.Core.Path.{_≡_};
 ghost use mathlib.Core.List.{[], _∷_};
 ghost use Prim.Native.Nat.{_+_, _≤_};
 ghost use lib.ListN.{length};
-ghost use Rattle.c_layout.specs.Bytes.{byteOf, over};
+ghost use Rattle.bits.specs.Bytes.{byteOf, over};
 ghost use Rattle.c_layout.specs.ContentsBytes.{headerBytes, frameBytes, answerHead, envelopeBytes, envelopesBytes, answerBytes, rowAt, rowsAt, phasesAt, allPhasesAt, headerAt, frameAt, extensionAt, contentsAt};
-use crate::bytes;
+use crate::indices;
+use bits::bytes;
 use stereo::Body;
 use stereo::Contents;
 use stereo::Extension;
@@ -20,7 +21,7 @@ fn row_at(s: &[u8], at: usize) -> Row
     requires { ⌜ at + 35 ≤ length (now s) ⌝ }
     ensures { λ r. ⌜ r ≡ rowAt (now (s .entry)) at ⌝ }
 {
-    let indices = bytes::indices_at(s, at + 1);
+    let indices = indices::indices_at(s, at + 1);
     Row {
         time: bytes::wide(s[at]),
         indices,
@@ -207,13 +208,13 @@ fn put_envelope(out: &mut [u8], at: usize, iid: Row, icc: Row, phases: Phases)
     ensures { λ _. ⌜ (now (out .exit) ≡ over (now (out .entry)) at (envelopeBytes iid icc phases)) × (length (envelopeBytes iid icc phases) ≡ 140) ⌝ }
 {
     let levels = iid.indices;
-    bytes::put_numbered(out, at, iid.time, levels);
+    indices::put_numbered(out, at, iid.time, levels);
     let coherences = icc.indices;
-    bytes::put_numbered(out, at + 35, icc.time, coherences);
+    indices::put_numbered(out, at + 35, icc.time, coherences);
     let ipd = phases.ipd.indices;
-    bytes::put_numbered(out, at + 70, phases.ipd.time, ipd);
+    indices::put_numbered(out, at + 70, phases.ipd.time, ipd);
     let opd = phases.opd.indices;
-    bytes::put_numbered(out, at + 105, phases.opd.time, opd);
+    indices::put_numbered(out, at + 105, phases.opd.time, opd);
 }
 
 // The four envelopes are put where they stand.

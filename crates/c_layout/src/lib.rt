@@ -1,5 +1,4 @@
 // The stereo state and a payload's contents as bytes, for a program in another language.
 pub mod answers;
-pub mod bytes;
-pub mod calls;
+pub mod indices;
 pub mod states;

@@ -3,9 +3,10 @@ ghost use mathlib.Core.Path.{_≡_};
 ghost use mathlib.Core.Bool.{_&&_};
 ghost use Prim.Native.Nat.{_+_, _≤_};
 ghost use lib.ListN.{length};
-ghost use Rattle.c_layout.specs.Bytes.{over};
+ghost use Rattle.bits.specs.Bytes.{over};
 ghost use Rattle.c_layout.specs.StateBytes.{stateHead, stateBytes, recordAt, stateAt, isFlag, soundBytes};
-use crate::bytes;
+use crate::indices;
+use bits::bytes;
 use stereo::Setup;
 use stereo::State;
 use stereo_indices::Record;
@@ -15,7 +16,7 @@ fn record_at(s: &[u8], at: usize) -> Record
     requires { ⌜ at + 35 ≤ length (now s) ⌝ }
     ensures { λ r. ⌜ r ≡ recordAt (now (s .entry)) at ⌝ }
 {
-    let indices = bytes::indices_at(s, at + 1);
+    let indices = indices::indices_at(s, at + 1);
     Record {
         mode: bytes::wide(s[at]),
         indices,
@@ -100,11 +101,11 @@ pub fn put_state(out: &mut [u8], state: State)
     let head = head_of(state);
     bytes::put(out, 0, &head);
     let iid = state.iid.indices;
-    bytes::put_numbered(out, 6, state.iid.mode, iid);
+    indices::put_numbered(out, 6, state.iid.mode, iid);
     let icc = state.icc.indices;
-    bytes::put_numbered(out, 41, state.icc.mode, icc);
+    indices::put_numbered(out, 41, state.icc.mode, icc);
     let ipd = state.ipd.indices;
-    bytes::put_numbered(out, 76, state.ipd.mode, ipd);
+    indices::put_numbered(out, 76, state.ipd.mode, ipd);
     let opd = state.opd.indices;
-    bytes::put_numbered(out, 111, state.opd.mode, opd);
+    indices::put_numbered(out, 111, state.opd.mode, opd);
 }

@@ -9,8 +9,8 @@ use borrow.Author.Tests.{ne-eqb}
 use lib.Dec.{eqb}
 use Rattle.bits.specs.Reader.{pick}
 use Rattle.c_layout.specs.StateBytes.{soundBytes}
-use Rattle.c_layout.specs.Calls.{callRefusal}
-use Rattle.c_layout.proofs.CallLaws.{call-room, call-range}
+use Rattle.bits.specs.Calls.{callRefusal}
+use Rattle.bits.proofs.CallLaws.{call-room, call-range}
 use Rattle.c_stereo.specs.ReadStereo.{stereoCallRefusal}
 
 -- a second test after a first refusal's number

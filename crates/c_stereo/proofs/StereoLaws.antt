@@ -7,7 +7,7 @@ use mathlib.Core.Bool.{true, false}
 use borrow.Author.Tests.{eq-eqb, ne-eqb}
 use lib.Dec.{eqb}
 use lib.ListN.{length, set}
-use Rattle.c_layout.specs.Bytes.{over}
+use Rattle.bits.specs.Bytes.{over}
 use Rattle.c_layout.specs.StateBytes.{stateBytes}
 use Rattle.c_layout.specs.ContentsBytes.{answerBytes}
 use Rattle.c_stereo.specs.ReadStereo.{stereoCallRefusal, stereoReading, stereoNumber, stereoStateAfter, stereoAnswerAfter}

@@ -7,10 +7,10 @@ use Rattle.bits.specs.Reader.{pick}
 use Rattle.bits.specs.Payload.{range}
 use Rattle.stereo.specs.Stereo.{readBytes}
 use Rattle.stereo.specs.declared.Reading.{Reading}
-use Rattle.c_layout.specs.Bytes.{over}
+use Rattle.bits.specs.Bytes.{over}
 use Rattle.c_layout.specs.StateBytes.{stateBytes, stateAt, soundBytes}
 use Rattle.c_layout.specs.ContentsBytes.{answerBytes}
-use Rattle.c_layout.specs.Calls.{callRefusal, answered}
+use Rattle.bits.specs.Calls.{callRefusal, answered}
 use Rattle.c_stereo.specs.StateCalls.{lostBytes}
 
 -- what is judged before any bit: 1, 2, 4; 0 where all is well

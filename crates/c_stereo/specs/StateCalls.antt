@@ -6,7 +6,7 @@ use lib.ListN.{length, set}
 use Rattle.bits.specs.Reader.{pick}
 use Rattle.stereo.specs.State.{fresh}
 use Rattle.c_layout.specs.StateBytes.{stateBytes, soundBytes}
-use Rattle.c_layout.specs.Calls.{answered}
+use Rattle.bits.specs.Calls.{answered}
 
 -- 2 where a state does not fit
 abbrev pub freshNumber : List ℕ → ℕ

@@ -3,8 +3,8 @@ ghost use mathlib.Core.Path.{_≡_};
 ghost use lib.ListN.{length};
 ghost use Rattle.c_stereo.specs.StateCalls.{freshNumber, freshAfter, missingNumber, missingAfter};
 ghost use Rattle.c_stereo.specs.ReadStereo.{stereoCallRefusal, stereoNumber, stereoStateAfter, stereoAnswerAfter};
+use bits::calls::call_refusal;
 use c_layout::answers;
-use c_layout::calls::call_refusal;
 use c_layout::states;
 
 // The state before any payload is written to the front of a lent state.

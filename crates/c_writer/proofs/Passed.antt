@@ -7,7 +7,7 @@ use mathlib.Core.Bool.{true}
 use borrow.Author.Tests.{leb-true}
 use lib.Dec.{leb}
 use Rattle.c_layout.specs.StateBytes.{soundBytes}
-use Rattle.c_layout.proofs.CallLaws.{passed}
+use Rattle.bits.proofs.CallLaws.{passed}
 use Rattle.c_writer.specs.WriteStereo.{writeCallRefusal}
 
 pub write-passed : (s : List ℕ) (size : ℕ) → writeCallRefusal s size ≡ 0 → (soundBytes s ≡ true) × (582 ≤ size)

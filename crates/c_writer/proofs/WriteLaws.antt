@@ -8,7 +8,7 @@ use borrow.Author.Tests.{eq-eqb, ne-eqb}
 use lib.Dec.{eqb}
 use lib.ListN.{length}
 use Rattle.stereo_writer.specs.Writing.{writtenOver}
-use Rattle.c_layout.specs.Bytes.{wordOf, over}
+use Rattle.bits.specs.Bytes.{wordOf, over}
 use Rattle.c_layout.specs.StateBytes.{stateBytes, stateAt}
 use Rattle.c_layout.specs.ContentsBytes.{contentsAt}
 use Rattle.c_writer.specs.WriteStereo.{writeCallRefusal, stereoWriting, writeNumber, writeStateAfter, writeContentsAfter, writeOutputAfter}

@@ -6,10 +6,10 @@ use lib.ListN.{length}
 use Rattle.bits.specs.Reader.{pick}
 use Rattle.stereo_writer.specs.Writing.{writing, writtenOver}
 use Rattle.stereo_writer.specs.declared.Written.{Written}
-use Rattle.c_layout.specs.Bytes.{wordOf}
+use Rattle.bits.specs.Bytes.{wordOf}
 use Rattle.c_layout.specs.StateBytes.{stateBytes, stateAt, soundBytes}
 use Rattle.c_layout.specs.ContentsBytes.{contentsAt}
-use Rattle.c_layout.specs.Calls.{answered}
+use Rattle.bits.specs.Calls.{answered}
 
 -- 4; then 40 for bytes too few to stand for contents; 0 where all is well
 abbrev pub writeCallRefusal : List ℕ → ℕ → ℕ

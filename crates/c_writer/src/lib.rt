@@ -2,8 +2,8 @@
 ghost use mathlib.Core.Path.{_≡_};
 ghost use lib.ListN.{length};
 ghost use Rattle.c_writer.specs.WriteStereo.{writeCallRefusal, writeNumber, writeStateAfter, writeContentsAfter, writeOutputAfter};
+use bits::bytes;
 use c_layout::answers;
-use c_layout::bytes;
 use c_layout::states;
 use stereo_writer::writing;
 

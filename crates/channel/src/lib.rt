@@ -9,6 +9,7 @@ ghost use Rattle.channel.specs.Stream.{stream};
 ghost use Rattle.channel.specs.Promise.{channelCallRefusal, refusal, accepted, channel, readingOf, linesAfter, factorsAfter, booksAfter};
 use crate::stream::Opened;
 use crate::stream::Opening;
+use bits::bytes;
 
 mod stream;
 
@@ -112,11 +113,7 @@ fn copy_bands(out: &mut [u8], bands: [u8; 120])
     requires { ⌜ 120 ≤ length (now out) ⌝ }
     ensures { λ _. ⌜ now (out .exit) ≡ bands ++ drop 120 (now (out .entry)) ⌝ }
 {
-    let mut i = 0;
-    while i < 120 {
-        out[i] = bands[i];
-        i += 1;
-    }
+    bytes::put(out, 0, &bands);
 }
 
 // The channel stream in a slice: its lines, scale factors and books are written to the front of the lent outputs where it is accepted.

@@ -23,7 +23,6 @@ use channel_side::pulses::read_pulses;
 use channel_side::sections::read_books;
 use channel_side::window::Info;
 use channel_side::window::Windowed;
-use channel_side::window::read_flag;
 use channel_side::window::read_window;
 
 // Gain and window information.
@@ -85,11 +84,11 @@ fn read_unpulsed(
     requires { ⌜ (end ≤ 8 * length (now s)) × Tables (now codes) (now lens) × (now edges ≡ bands index (eqb (info .sequence) 2)) × (info .sfbs ≤ bandCount index (eqb (info .sequence) 2)) × (now lines ≡ replicate 1024 (pos 0)) ⌝ }
     ensures { λ r. ⌜ endedAnswer r (now (lines .exit)) ≡ unpulsed index (windowOf info) (now (books .entry)) (now (s .entry)) at end ⌝ }
 {
-    let f1 = read_flag(s, at, end, 20);
+    let f1 = bits::read_unset_bit(s, at, end, 20);
     let Field::Got(_, a1) = f1 else {
         return bits::passed_on(f1);
     };
-    let f2 = read_flag(s, a1, end, 20);
+    let f2 = bits::read_unset_bit(s, a1, end, 20);
     let Field::Got(_, a2) = f2 else {
         return bits::passed_on(f2);
     };

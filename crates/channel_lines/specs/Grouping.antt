@@ -1,9 +1,9 @@
 -- Groups of windows: a grouping bit of 1 puts the next window in the group of the one before.
-use Prim.Native.Nat.{ℕ, zero, suc, _-_, _/_, _%_, _^_}
-use mathlib.Core.List.{List, [], _∷_, _++_}
+use Prim.Native.Nat.{ℕ, zero, suc, _/_, _%_, _^_}
+use mathlib.Core.List.{List, [], _∷_}
 use mathlib.Core.Bool.{Bool}
 use lib.Dec.{eqb}
-use lib.ListN.{length, replicate}
+use Rattle.bits.specs.Lists.{padded}
 use Rattle.bits.specs.Reader.{pick}
 
 -- the windows of each group, k windows more after n in the group at hand; the bits are the last k of a number
@@ -22,4 +22,4 @@ groupsOf short bits = pick short (groupsAfter 8 bits) (1 ∷ [])
 
 -- groups in eight places, 0 where there is none
 abbrev pub inEight : List ℕ → List ℕ
-inEight groups = groups ++ replicate (8 - length groups) 0
+inEight groups = padded 8 0 groups

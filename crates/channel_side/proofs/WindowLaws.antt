@@ -7,13 +7,12 @@ use mathlib.Core.Bool.{Bool, true, false}
 use native.Mathlib.Omega.{arith}
 use lib.Dec.{leb, eqb}
 use borrow.Author.Tests.{leb-true}
-use Rattle.bits.specs.Reader.{Answer, got, pick}
+use Rattle.bits.specs.Reader.{Answer, got, pick, tested}
 use Rattle.bits.specs.Field.{field, zeroBit}
 use Rattle.bits.proofs.Lawful.{tested-got}
 use Rattle.bits.proofs.Taken.{field-below}
 use Rattle.channel_lines.specs.Bands.{bandCount}
 use Rattle.channel_side.specs.Window.{maxSfbOf, groupingOf}
-use Rattle.channel_side.specs.Answers.{atMost}
 use Rattle.channel_lines.proofs.BandLaws.{bands-most, most-small}
 
 pub max-sfb-bound : (index : ℕ) (short : Bool) (s : List ℕ) (at end v next : ℕ) → maxSfbOf index short s at end ≡ got v next → v ≤ bandCount index short
@@ -32,7 +31,7 @@ grouping-below false s at end v next e = let h = zero-bit-below 20 s at end v ne
 
 -- max_sfb, as the code judges it
 pub max-sfb-is : {x y : Answer ℕ} {m : ℕ} (index : ℕ) (short : Bool) (n : ℕ) (s : List ℕ) (at end : ℕ) → pick short 4 6 ≡ n → m ≡ bandCount index short
-    → y ≡ field n s at end → x ≡ atMost y m 21 at → x ≡ maxSfbOf index short s at end
+    → y ≡ field n s at end → x ≡ tested y 21 (λ v. leb v m) at → x ≡ maxSfbOf index short s at end
 unfolding maxSfbOf
 max-sfb-is index short n s at end w b f e = e ∙ rw (f, b, ← w)
 

@@ -1,10 +1,10 @@
 -- What the answers of the code's parts mean.
 use Prim.Native.Nat.{ℕ, _≤_}
-use lib.Dec.{eqb, leb}
+use lib.Dec.{eqb}
 use lib.ListN.{getD}
 use mathlib.Core.Path.{_≡_}
 use mathlib.Core.List.{List}
-use Rattle.bits.specs.Reader.{Answer, got, refused, Reader, tested}
+use Rattle.bits.specs.Reader.{Answer, got, refused, Reader}
 use Rattle.bits.specs.Answers.{endedAnswer}
 use Rattle.bits.specs.declared.Ended.{Ended}
 use Rattle.channel_lines.specs.Bands.{bandCount}
@@ -66,10 +66,6 @@ pub record Low (lines : List ℕ) : Type 0 where
 abbrev pub Few : Field → Type 0
 Few (Got count next) = count ≤ 4
 Few (Refused n place) = Unit
-
--- a field's answer, where it is at most so much; else a refusal at the place where it began
-abbrev pub atMost : Answer ℕ → ℕ → ℕ → ℕ → Answer ℕ
-atMost x most number at = tested x number (λ v. leb v most) at
 
 -- what a reader that reads nothing answers, whatever the bytes and the end are
 abbrev pub Always : {A : Type 0} → Ended → A → Reader A → ℕ → Type 0

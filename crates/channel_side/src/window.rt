@@ -3,8 +3,7 @@ ghost use mathlib.Core.Path.{_≡_};
 ghost use Prim.Native.Nat.{_*_, _≤_};
 ghost use lib.ListN.{length};
 ghost use Rattle.bits.specs.Answers.{fieldAnswer};
-ghost use Rattle.bits.specs.Field.{zeroBit};
-ghost use Rattle.channel_side.specs.Answers.{windowAnswer, windowRefusal, Sound, atMost};
+ghost use Rattle.channel_side.specs.Answers.{windowAnswer, windowRefusal, Sound};
 ghost use Rattle.channel_side.specs.Window.{maxSfbOf, groupingOf, window};
 use bits::Field;
 
@@ -32,34 +31,6 @@ fn refusal(f: Field) -> Windowed
     }
 }
 
-// A field that began at a place, refused where it is above a number.
-pub fn at_most(f: Field, most: u32, number: u8, at: usize) -> Field
-    ensures { λ r. ⌜ fieldAnswer r ≡ atMost (fieldAnswer f) most number at ⌝ }
-{
-    let Field::Got(v, _) = f else {
-        return f;
-    };
-    if most < v {
-        return Field::Refused(number, at);
-    }
-    f
-}
-
-// A bit that has to be 0.
-pub fn read_flag(s: &[u8], at: usize, end: usize, number: u8) -> Field
-    requires { ⌜ end ≤ 8 * length (now s) ⌝ }
-    ensures { λ r. ⌜ fieldAnswer r ≡ zeroBit number (now (s .entry)) at end ⌝ }
-{
-    let f = bits::read_field(s, at, end, 1);
-    let Field::Got(v, _) = f else {
-        return f;
-    };
-    if v != 0 {
-        return Field::Refused(number, at);
-    }
-    f
-}
-
 // max_sfb: 4 bits for short windows, else 6.
 fn read_max_sfb(s: &[u8], at: usize, end: usize, index: u8, short: bool) -> Field
     requires { ⌜ end ≤ 8 * length (now s) ⌝ }
@@ -67,9 +38,9 @@ fn read_max_sfb(s: &[u8], at: usize, end: usize, index: u8, short: bool) -> Fiel
 {
     let most = channel_lines::bands::band_count(index, short);
     if short {
-        return at_most(bits::read_field(s, at, end, 4), most, 21, at);
+        return bits::at_most(bits::read_field(s, at, end, 4), most, 21, at);
     }
-    at_most(bits::read_field(s, at, end, 6), most, 21, at)
+    bits::at_most(bits::read_field(s, at, end, 6), most, 21, at)
 }
 
 // The grouping bits of short windows, or the prediction flag, which has to be 0.
@@ -80,7 +51,7 @@ fn read_grouping(s: &[u8], at: usize, end: usize, short: bool) -> Field
     if short {
         return bits::read_field(s, at, end, 7);
     }
-    read_flag(s, at, end, 20)
+    bits::read_unset_bit(s, at, end, 20)
 }
 
 // The window information.
@@ -88,7 +59,7 @@ pub fn read_window(s: &[u8], at: usize, end: usize, index: u8) -> Windowed
     requires { ⌜ end ≤ 8 * length (now s) ⌝ }
     ensures { λ r. ⌜ (windowAnswer r ≡ window index (now (s .entry)) at end) × Sound index r ⌝ }
 {
-    let f1 = read_flag(s, at, end, 13);
+    let f1 = bits::read_unset_bit(s, at, end, 13);
     let Field::Got(_, a1) = f1 else {
         return refusal(f1);
     };

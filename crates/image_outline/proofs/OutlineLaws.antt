@@ -13,7 +13,7 @@ use Rattle.bits.specs.Reader.{pick}
 use Rattle.image.specs.Image.{countOf, offsetOf, refusedHeader, headerOf, partOf, bytesOf}
 use Rattle.image.specs.declared.Header.{Header}
 use Rattle.image.proofs.ImageLaws.{Sound, header-sound}
-use Rattle.c_layout.specs.Bytes.{over}
+use Rattle.bits.specs.Bytes.{over}
 use Rattle.image_outline.specs.Answers.{stateFrom, stateBefore}
 use Rattle.image_outline.specs.Outline.{rowFrom, rowOf, rowsOf, outlineOf, rowsAfter}
 

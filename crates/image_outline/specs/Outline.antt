@@ -11,7 +11,7 @@ use Rattle.stereo.specs.declared.Reading.{Reading}
 use Rattle.stereo.specs.declared.State.{State}
 use Rattle.image.specs.Image.{bytesOf, refusedHeader, headerOf}
 use Rattle.image.specs.declared.Header.{Header}
-use Rattle.c_layout.specs.Bytes.{over}
+use Rattle.bits.specs.Bytes.{over}
 use Rattle.image_outline.specs.Answers.{isEven, channelIn, stereoIn, stateBefore}
 
 -- how many lines are not 0

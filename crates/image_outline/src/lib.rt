@@ -5,7 +5,7 @@ ghost use Prim.Native.Nat.{_+_, _*_, _≤_, _<_};
 ghost use lib.IntN.{pos};
 ghost use lib.ListN.{length, replicate};
 ghost use Rattle.image.specs.Image.{headerOf};
-ghost use Rattle.c_layout.specs.Bytes.{over};
+ghost use Rattle.bits.specs.Bytes.{over};
 ghost use Rattle.image_outline.specs.Answers.{channelIn, stereoIn, stateFrom};
 ghost use Rattle.image_outline.specs.Outline.{sounding, channelRow, stereoRow, rowFrom, rowsOf, outlineOf, rowsAfter};
 use image::Header;

@@ -7,7 +7,7 @@ use native.Mathlib.Omega.{arith}
 use lib.ListN.{length}
 use lib.Seq.{getD-set-same, getD-set-other, drop-set-lt}
 use Rattle.stereo.specs.State.{lost}
-use Rattle.c_layout.specs.Bytes.{indicesAt}
+use Rattle.c_layout.specs.Indices.{indicesAt}
 use Rattle.c_layout.specs.StateBytes.{recordAt, stateAt}
 use Rattle.c_stereo.specs.StateCalls.{lostBytes}
 

@@ -5,7 +5,7 @@ use mathlib.Core.Path.{_≡_, refl}
 use mathlib.Core.List.{List, [], _∷_}
 use lib.IntN.{pos, negsuc}
 use lib.ListN.{getD}
-use Rattle.stereo_indices.specs.Indices.{padded}
+use Rattle.bits.specs.Lists.{padded}
 use Rattle.stereo_indices.specs.Rows.{noRow}
 use Rattle.stereo.specs.State.{fresh}
 use Rattle.stereo.specs.Extension.{noPhases}

@@ -7,7 +7,8 @@ use mathlib.Core.Bool.{true, false}
 use lib.IntN.{ℤ, pos}
 use Rattle.bits.specs.Reader.{got, refused}
 use Rattle.stereo_indices.specs.Record.{none, recordOf}
-use Rattle.stereo_indices.specs.Indices.{padded, index}
+use Rattle.bits.specs.Lists.{padded}
+use Rattle.stereo_indices.specs.Indices.{index}
 use Rattle.stereo_indices.specs.Rows.{noRows, noRow}
 use Rattle.stereo_indices.specs.declared.Kind.the-variants.{Iid, Icc, Ipd}
 use Rattle.stereo_indices.specs.declared.Record.{Record}

@@ -20,7 +20,7 @@ use Rattle.bits.specs.Loop.{counted, more, listed}
 use Rattle.bits.specs.declared.Ended.{Ended}
 use Rattle.bits.specs.declared.Ended.the-variants.{At, Refused}
 use Rattle.stereo_indices.specs.Record.{recordOf}
-use Rattle.stereo_indices.specs.Indices.{padded}
+use Rattle.bits.specs.Lists.{padded}
 use Rattle.stereo_indices.specs.Rows.{recordAfterRows, row}
 use Rattle.stereo_indices.specs.declared.Kind.the-variants.{Ipd, Opd}
 use Rattle.stereo_indices.specs.declared.Record.{Record}

@@ -9,7 +9,7 @@ use Rattle.bits.specs.Loop.{counted, more, listed}
 use Rattle.bits.specs.Answers.{endedAnswer}
 use Rattle.bits.specs.declared.Ended.{Ended}
 use Rattle.bits.specs.declared.Ended.the-variants.{At, Refused}
-use Rattle.stereo_indices.specs.Indices.{padded}
+use Rattle.bits.specs.Lists.{padded}
 use Rattle.stereo.specs.Frame.{envelopeCount, bordersOf, borders, frame}
 use Rattle.stereo.specs.declared.Frame.{Frame}
 

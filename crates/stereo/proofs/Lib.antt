@@ -4,7 +4,6 @@ pub mod FrameLaws
 pub mod ExtensionLaws
 pub mod ContentsLaws
 pub mod TurnLaws
-pub mod NearLaws
 pub mod PayloadLaws
 pub mod PayloadNear
 pub mod BytesLaws

@@ -32,7 +32,8 @@ use Rattle.stereo.specs.declared.State.{State}
 use Rattle.stereo.specs.declared.Header.{Header}
 use Rattle.stereo.specs.declared.Frame.{Frame}
 use Rattle.stereo.specs.declared.Contents.{Contents}
-use Rattle.stereo.proofs.NearLaws.{Near, wider, give-near, field-near, expecting-near, pick-near, bind-near, known-near, listed-near, inside-near, word-near}
+use Rattle.bits.proofs.NearLaws.{Near, wider, give-near, field-near, expecting-near, pick-near, bind-near, known-near, listed-near, inside-near}
+use Rattle.tables.proofs.WordNear.{word-near}
 use Rattle.stereo.proofs.ExtensionLaws.{esc-below}
 use Rattle.stereo.proofs.PayloadLaws.{part-filling}
 

@@ -9,7 +9,7 @@ use Rattle.bits.specs.Field.{field, zeroBit}
 use Rattle.bits.specs.Loop.{listed}
 use Rattle.bits.specs.Places.{here, refuseAt}
 use Rattle.bits.specs.Inside.{inside, Fill, leftOver}
-use Rattle.stereo_indices.specs.Indices.{padded}
+use Rattle.bits.specs.Lists.{padded}
 use Rattle.stereo_indices.specs.Rows.{noRow, recordAfterRows, row}
 use Rattle.stereo_indices.specs.declared.Kind.the-variants.{Ipd, Opd}
 use Rattle.stereo_indices.specs.declared.Record.{Record}

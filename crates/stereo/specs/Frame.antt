@@ -6,7 +6,7 @@ use lib.ListN.{replicate}
 use Rattle.bits.specs.Reader.{Reader, give, pick, _>>=_}
 use Rattle.bits.specs.Field.{field}
 use Rattle.bits.specs.Loop.{listed}
-use Rattle.stereo_indices.specs.Indices.{padded}
+use Rattle.bits.specs.Lists.{padded}
 use Rattle.stereo.specs.declared.Frame.{Frame}
 
 -- table 8.7: 0, 1, 2 or 4 envelopes; with variable borders 1, 2, 3 or 4

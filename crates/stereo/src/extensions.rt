@@ -180,21 +180,6 @@ fn read_phase_flag(s: &[u8], at: usize, end: usize, mode: u32) -> Field
     Field::Refused(34, p1)
 }
 
-// A reserved bit.
-fn read_reserved(s: &[u8], at: usize, end: usize) -> Field
-    requires { ⌜ end ≤ 8 * length (now s) ⌝ }
-    ensures { λ r. ⌜ fieldAnswer r ≡ zeroBit 13 (now (s .entry)) at end ⌝ }
-{
-    let f = bits::read_field(s, at, end, 1);
-    let Field::Got(bit, _) = f else {
-        return f;
-    };
-    if bit == 0 {
-        return f;
-    }
-    Field::Refused(13, at)
-}
-
 // No v0.
 fn no_body() -> Body
     ensures { λ r. ⌜ r ≡ noBody ⌝ }
@@ -235,7 +220,7 @@ fn read_v0(
     let Ended::At(p2) = e2 else {
         return refused_body(e2);
     };
-    let f3 = read_reserved(s, p2, end);
+    let f3 = bits::read_unset_bit(s, p2, end, 13);
     let ended = bits::passed_on(f3);
     let body = Body { phase, phases };
     ReadBody { ended, body }
@@ -251,16 +236,6 @@ fn no_part() -> Part
         count: 0,
         value: 0,
     }
-}
-
-// How many bits are left before an end.
-pub fn remaining(at: usize, end: usize) -> usize
-    ensures { λ r. ⌜ r ≡ end - at ⌝ }
-{
-    if end < at {
-        return 0;
-    }
-    end - at
 }
 
 // Why another id is refused: a second v0, or one that is reserved.
@@ -294,7 +269,7 @@ fn read_part(
         let part = no_part();
         return ReadPart { ended, part };
     };
-    let count = remaining(next, end);
+    let count = bits::remaining(next, end);
     if 7 < count {
         let ended = Ended::Refused(why_another(s, next), next);
         let part = no_part();
@@ -342,7 +317,7 @@ fn read_announced(
         return ReadPart { ended, part };
     }
     let bits = 8 * size;
-    if remaining(at, end) < bits {
+    if bits::remaining(at, end) < bits {
         let ended = Ended::Refused(10, at);
         let part = no_part();
         return ReadPart { ended, part };

@@ -12,7 +12,8 @@ use Rattle.tables.specs.Names.{tableAt}
 use Rattle.bits.specs.Loop.{counted, more, listed}
 use Rattle.stereo_indices.specs.Kind.{bands, inRange}
 use Rattle.stereo_indices.specs.Difference.{differenceTable, difference, added}
-use Rattle.stereo_indices.specs.Indices.{padded, indexFrom, index, indices}
+use Rattle.bits.specs.Lists.{padded}
+use Rattle.stereo_indices.specs.Indices.{indexFrom, index, indices}
 use Rattle.stereo_indices.specs.declared.Kind.{Kind}
 
 module _ (k : Kind) (mode time : ℕ) (s : List ℕ) (at end : ℕ) where

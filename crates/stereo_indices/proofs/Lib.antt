@@ -1,6 +1,5 @@
 pub mod KindLaws
 pub mod IndexLaws
-pub mod ArrayLaws
 pub mod RowLaws
 pub mod RecordLaws
 pub mod ReadingLaws

@@ -12,7 +12,8 @@ use Rattle.bits.specs.Loop.{counted, more, listed}
 use Rattle.bits.specs.declared.Ended.{Ended}
 use Rattle.bits.specs.declared.Ended.the-variants.{At, Refused}
 use Rattle.stereo_indices.specs.Record.{recordOf}
-use Rattle.stereo_indices.specs.Indices.{padded, indices}
+use Rattle.bits.specs.Lists.{padded}
+use Rattle.stereo_indices.specs.Indices.{indices}
 use Rattle.stereo_indices.specs.Rows.{noRow, recordAfterRows, allowed, row, rowsOf}
 use Rattle.stereo_indices.specs.declared.Kind.{Kind}
 use Rattle.stereo_indices.specs.declared.Record.{Record}

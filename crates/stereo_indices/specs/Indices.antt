@@ -1,18 +1,15 @@
 -- The indices of one kind in one envelope.
 use Prim.Native.Nat.{ℕ, _-_}
-use mathlib.Core.List.{List, _++_}
+use mathlib.Core.List.{List}
 use lib.Dec.{eqb}
-use lib.ListN.{length, getD, replicate}
+use lib.ListN.{length, getD}
 use lib.IntN.{ℤ, pos}
 use Rattle.bits.specs.Reader.{Reader, give, pick, expecting, _>>=_}
+use Rattle.bits.specs.Lists.{padded}
 use Rattle.bits.specs.Loop.{listed}
 use Rattle.stereo_indices.specs.Kind.{bands, inRange}
 use Rattle.stereo_indices.specs.Difference.{difference, added}
 use Rattle.stereo_indices.specs.declared.Kind.{Kind}
-
--- a list filled up to n elements
-abbrev pub padded : {A : Type 0} → ℕ → A → List A → List A
-padded n z xs = xs ++ replicate (n - length xs) z
 
 -- what a difference is added to: across time the index of the record, across frequency the index before it, or 0 for the first
 unfoldable pub reference : ℕ → List ℤ → List ℤ → ℤ

@@ -8,7 +8,8 @@ use Rattle.bits.specs.Reader.{Reader, give, pick, expecting, _>>=_}
 use Rattle.bits.specs.Field.{field}
 use Rattle.bits.specs.Loop.{listed}
 use Rattle.stereo_indices.specs.Record.{zeros, recordOf, agrees}
-use Rattle.stereo_indices.specs.Indices.{padded, indices}
+use Rattle.bits.specs.Lists.{padded}
+use Rattle.stereo_indices.specs.Indices.{indices}
 use Rattle.stereo_indices.specs.declared.Kind.{Kind}
 use Rattle.stereo_indices.specs.declared.Record.{Record}
 use Rattle.stereo_indices.specs.declared.Row.{Row}

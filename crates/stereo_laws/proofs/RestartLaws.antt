@@ -17,7 +17,8 @@ use Rattle.bits.proofs.Bools.{and-both}
 use Rattle.bits.proofs.Lawful.{tested-got}
 use Rattle.bits.proofs.Gives.{Gives, give-gives, then-gives}
 use Rattle.bits.proofs.PayloadLaws.{whole-got, whole-is}
-use Rattle.stereo_indices.specs.Indices.{padded, reference, index, indices}
+use Rattle.bits.specs.Lists.{padded}
+use Rattle.stereo_indices.specs.Indices.{reference, index, indices}
 use Rattle.stereo_indices.specs.Rows.{noRow, recordAfterRows, allowed, row, rowsOf, rows}
 use Rattle.stereo_indices.specs.declared.Kind.{Kind}
 use Rattle.stereo_indices.specs.declared.Kind.the-variants.{Iid, Icc, Ipd, Opd}

@@ -20,7 +20,8 @@ use Rattle.bits.proofs.Gives.{Gives, give-gives, bind-gives, then-gives, map-gi
 use Rattle.bits.proofs.PayloadLaws.{whole-got}
 use Rattle.stereo_indices.specs.Kind.{fine, bands, least, most, within, inRange}
 use Rattle.stereo_indices.specs.Record.{zeros, isNone, recordOf, none, soundMode, recordBands, soundIndex, soundFrom, soundRecord}
-use Rattle.stereo_indices.specs.Indices.{padded, reference, index, indices}
+use Rattle.bits.specs.Lists.{padded}
+use Rattle.stereo_indices.specs.Indices.{reference, index, indices}
 use Rattle.stereo_indices.specs.Rows.{noRow, noRows, recordAfterRows, allowed, row, rowsOf, rows}
 use Rattle.stereo_indices.specs.declared.Kind.{Kind}
 use Rattle.stereo_indices.specs.declared.Kind.the-variants.{Iid, Icc, Ipd, Opd}

@@ -9,7 +9,6 @@ use stereo::Contents;
 use stereo::Reading;
 use stereo::Report;
 use stereo::State;
-use stereo::extensions;
 use stereo::payloads;
 use stereo::states;
 use stereo::turns;
@@ -102,7 +101,7 @@ pub fn read_bytes(state: State, s: &[u8]) -> Reading
     let contents = read.contents;
     match ended {
         Ended::At(bits) => {
-            if 7 < extensions::remaining(bits, end) {
+            if 7 < bits::remaining(bits, end) {
                 return refused_at(12, state);
             }
             taken(state, contents, bits)

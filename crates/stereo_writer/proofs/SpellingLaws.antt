@@ -24,7 +24,8 @@ use Rattle.tables.specs.Words.{allCodes}
 use Rattle.tables.proofs.Rules.{spelt-at}
 use Rattle.stereo_indices.specs.Kind.{isPhase, bands}
 use Rattle.stereo_indices.specs.Difference.{firstTable, differenceTable, difference, middle, added}
-use Rattle.stereo_indices.specs.Indices.{padded, reference, indexFrom, index, indices}
+use Rattle.bits.specs.Lists.{padded}
+use Rattle.stereo_indices.specs.Indices.{reference, indexFrom, index, indices}
 use Rattle.stereo_indices.specs.Rows.{noRow, recordAfterRows, row, rowsOf, rows}
 use Rattle.stereo_indices.specs.declared.Kind.{Kind}
 use Rattle.stereo_indices.specs.declared.Kind.the-variants.{Iid, Icc, Ipd, Opd}

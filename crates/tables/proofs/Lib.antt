@@ -1,3 +1,4 @@
 pub mod RunLaws
 pub mod Rules
 pub mod PlaceLaws
+pub mod WordNear

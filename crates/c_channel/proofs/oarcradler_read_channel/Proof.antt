@@ -3,7 +3,7 @@
 -- Assumes nothing.
 use mathlib.Core.Path.{sym, _∙_}
 use lib.ListN.{length}
-use Rattle.c_layout.proofs.CallLaws.{call-room}
+use Rattle.bits.proofs.CallLaws.{call-room}
 use Rattle.c_channel.proofs.ChannelLaws.{call-refused, stream-refused, accepted}
 use borrow.Author.Needs.{needs}
 use Rattle.c_channel.proofs.oarcradler_read_channel.Statement.{statement}

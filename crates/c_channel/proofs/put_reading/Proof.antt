@@ -3,8 +3,8 @@
 use mathlib.Core.Path.{refl, _∙_}
 use mathlib.Core.List.{[], _∷_}
 use native.Mathlib.Omega.{arith}
-use Rattle.c_layout.specs.Bytes.{wordOf}
-use Rattle.c_layout.proofs.OverLaws.{Put, put-next}
+use Rattle.bits.specs.Bytes.{wordOf}
+use Rattle.bits.proofs.OverLaws.{Put, put-next}
 use Rattle.c_channel.specs.ReadChannel.{channelBytes}
 use borrow.Author.Needs.{needs}
 use Rattle.c_channel.proofs.put_reading.Statement.{statement}

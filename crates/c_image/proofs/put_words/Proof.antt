@@ -2,8 +2,8 @@
 -- Assumes nothing.
 use mathlib.Core.Path.{refl, _∙_}
 use native.Mathlib.Omega.{arith}
-use Rattle.c_layout.specs.Bytes.{wordOf}
-use Rattle.c_layout.proofs.OverLaws.{Put, put-next}
+use Rattle.bits.specs.Bytes.{wordOf}
+use Rattle.bits.proofs.OverLaws.{Put, put-next}
 use borrow.Author.Needs.{needs}
 use Rattle.c_image.proofs.put_words.Statement.{statement}
 use Rattle.c_image.proofs.put_words.Tie as tie

@@ -5,7 +5,7 @@ use mathlib.Core.Path.{_≡_, sym, _∙_}
 use native.Mathlib.Omega.{arith}
 use lib.ListN.{length}
 use Rattle.c_stereo.specs.ReadStereo.{stereoCallRefusal, stereoReading}
-use Rattle.c_layout.proofs.CallLaws.{sound-long}
+use Rattle.c_layout.proofs.StateLaws.{sound-long}
 use Rattle.c_stereo.proofs.Passed.{stereo-passed}
 use Rattle.c_stereo.proofs.StereoLaws.{call-refused, payload-refused, accepted}
 use borrow.Author.Needs.{needs}

@@ -3,7 +3,7 @@
 use mathlib.Core.Path.{sym, _∙_}
 use native.Mathlib.Omega.{arith}
 use borrow.Author.Tests.{not-true, not-false}
-use Rattle.c_layout.proofs.CallLaws.{sound-long}
+use Rattle.c_layout.proofs.StateLaws.{sound-long}
 use borrow.Author.Needs.{needs}
 use Rattle.c_stereo.proofs.oarcradler_report_missing.Statement.{statement}
 use Rattle.c_stereo.proofs.oarcradler_report_missing.Tie as tie

@@ -8,7 +8,7 @@ use Rattle.stereo_writer.specs.declared.Written.{Written}
 use Rattle.c_layout.specs.StateBytes.{stateAt}
 use Rattle.c_layout.specs.ContentsBytes.{contentsAt}
 use Rattle.c_writer.specs.WriteStereo.{stereoWriting}
-use Rattle.c_layout.proofs.CallLaws.{sound-long}
+use Rattle.c_layout.proofs.StateLaws.{sound-long}
 use Rattle.c_writer.proofs.Passed.{write-passed}
 use Rattle.c_writer.proofs.WriteLaws.{call-refused, contents-refused, accepted}
 use borrow.Author.Needs.{needs}

@@ -1,63 +1,25 @@
-use Prim.Native.Nat.{_-_, _≤_}
+-- The array is put over the front of the output, so its 120 numbers stand there and the rest follows.
 use mathlib.Core.Path.{_≡_, _∙_}
-use native.Mathlib.Omega.{arith}
+use lib.ListN.{length}
 use borrow.Author.Needs.{needs}
-use lib.ListN.{length, length-set}
-use lib.Seq.{take-all}
-use Rattle.bits.proofs.Copied.{copied, copied-more}
+use Rattle.bits.proofs.OverLaws.{over-front}
 use Rattle.channel.proofs.copy_bands.Statement.{statement}
 use Rattle.channel.proofs.copy_bands.Tie as tie
 
-abbrev Inv-loop : tie.InvT-loop
-Inv-loop out₀ bands i₀ out i = (i ≤ 120) × (length out ≡ length out₀) × (out ≡ copied bands out₀ i)
+slice-aggregate-put : tie.Need-slice-aggregate-put
+slice-aggregate-put c = search needs
 
-abbrev μ-loop : tie.MeasureT-loop
-μ-loop out₀ bands i₀ out i = 120 - i
+put-requires : tie.Need-put-requires
+put-requires c κs = search needs
 
-loop-holds : tie.Need-loop-holds Inv-loop μ-loop
-loop-holds c = search needs
-
-array-read-out : tie.Need-array-read-out Inv-loop μ-loop
-array-read-out c = search needs
-
-slice-write-out : tie.Need-slice-write-out Inv-loop μ-loop
-slice-write-out c = search needs
-
-add-i : tie.Need-add-i Inv-loop μ-loop
-add-i c = search needs
-
-loop-less : tie.Need-loop-less Inv-loop μ-loop
-loop-less c = search needs
-
-loop-again : tie.Need-loop-again Inv-loop μ-loop
-loop-again c =
-    let a = c .before .before in
-    let l = c .before .loop in
-    let h : length (a .args .t2) ≡ 120 = search needs in
-    (omega arith, simp length-set (l .inv .1), rw (l .inv .2) (copied-more (a .args .t2) (a .args .out .now) (l .i) 0 (omega arith) (omega arith)))
-
-same-length : tie.Need-same-length Inv-loop μ-loop
+same-length : tie.Need-same-length
 same-length c = search needs
 
-returns : tie.Need-returns Inv-loop μ-loop
+returns : tie.Need-returns
 returns c =
-    let a = c .before .before in
-    let l = c .before .loop in
-    let h : length (a .args .t2) ≡ 120 = search needs in
-    let e : l .i ≡ 120 = omega arith in
-    l .inv .2 ∙ rw (e, take-all 120 (a .args .t2) (omega arith))
+    let a = c .before .before .before .before .before .before .args in
+    let long : length (a .t2) ≡ 120 = search needs in
+    c .before .before .put .ensures ∙ over-front (a .out .now) (a .t2) 120 long
 
 pub copy-bands-spec : {M : Type 1} → statement M
-copy-bands-spec =
-    tie.close
-    (tie.spec
-    Inv-loop
-    μ-loop
-    loop-holds
-    array-read-out
-    slice-write-out
-    add-i
-    loop-less
-    loop-again
-    same-length
-    returns)
+copy-bands-spec = tie.close (tie.spec slice-aggregate-put put-requires same-length returns)

@@ -1,10 +1,11 @@
+-- So many lines are copied after each turn; at the end all of them stand over what was there.
 use Prim.Native.Nat.{_-_, _≤_}
-use mathlib.Core.Path.{_≡_, _∙_}
+use mathlib.Core.Path.{_≡_, refl, _∙_}
 use native.Mathlib.Omega.{arith}
 use borrow.Author.Needs.{needs}
 use lib.ListN.{length, length-set}
-use lib.Seq.{take-all}
-use Rattle.bits.proofs.Copied.{copied, copied-more}
+use lib.Seq.{paste, paste-zero}
+use Rattle.bits.proofs.OverLaws.{paste-front, pasted, over-front}
 use lib.IntN.{pos}
 use mir.Syntax.{w16}
 use mir.ValLaws.{toZ-ofZ}
@@ -12,13 +13,15 @@ use Rattle.channel.proofs.copy_lines.Statement.{statement}
 use Rattle.channel.proofs.copy_lines.Tie as tie
 
 abbrev Inv-loop : tie.InvT-loop
-Inv-loop out₀ lines i₀ out i = (i ≤ 1024) × (length out ≡ length out₀) × (out ≡ copied lines out₀ i)
+Inv-loop out₀ lines i₀ out i = (i ≤ 1024) × (length out ≡ length out₀) × (out ≡ paste out₀ 0 lines i)
 
 abbrev μ-loop : tie.MeasureT-loop
 μ-loop out₀ lines i₀ out i = 1024 - i
 
 loop-holds : tie.Need-loop-holds Inv-loop μ-loop
-loop-holds c = search needs
+loop-holds c =
+    let a = c .args in
+    (omega arith, refl, paste-zero (a .out .now) 0 (a .t2))
 
 mul-out : tie.Need-mul-out Inv-loop μ-loop
 mul-out c = search needs
@@ -43,7 +46,8 @@ loop-again c =
     let a = c .before .before .before in
     let l = c .before .before .loop in
     let h : length (a .args .t2) ≡ 1024 = search needs in
-    (omega arith, simp length-set (l .inv .1), rw (toZ-ofZ w16 _ (record { sfits = c .out .given }), l .inv .2) (copied-more (a .args .t2) (a .args .out .now) (l .i) (pos 0) (omega arith) (omega arith)))
+    let next = paste-front (a .args .out .now) (a .args .t2) (l .i) (pos 0) (omega arith) (omega arith) in
+    (omega arith, simp length-set (l .inv .1), rw (toZ-ofZ w16 _ (record { sfits = c .out .given }), l .inv .2) next)
 
 same-length : tie.Need-same-length Inv-loop μ-loop
 same-length c = search needs
@@ -53,8 +57,8 @@ returns c =
     let a = c .before .before in
     let l = c .before .loop in
     let h : length (a .args .t2) ≡ 1024 = search needs in
-    let e : l .i ≡ 1024 = omega arith in
-    l .inv .2 ∙ rw (e, take-all 1024 (a .args .t2) (omega arith))
+    let all : l .i ≡ length (a .args .t2) = omega arith in
+    l .inv .2 ∙ rw all (pasted (a .args .out .now) 0 (a .args .t2)) ∙ over-front (a .args .out .now) (a .args .t2) 1024 h
 
 pub copy-lines-spec : {M : Type 1} → statement M
 copy-lines-spec =

@@ -7,7 +7,7 @@ use native.Mathlib.Nat.{zero-add}
 use native.Mathlib.Omega.{arith}
 use borrow.Author.Needs.{needs}
 use lib.ListN.{length}
-use Rattle.c_layout.proofs.OverLaws.{Put, put-none, put-next, put-as, put-length}
+use Rattle.bits.proofs.OverLaws.{Put, put-none, put-next, put-as, put-length}
 use Rattle.image_outline.specs.Answers.{stateBefore}
 use Rattle.image_outline.specs.Outline.{rowsOf}
 use Rattle.image_outline.proofs.OutlineLaws.{part-there, rows-more, state-more}

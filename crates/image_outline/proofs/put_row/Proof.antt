@@ -3,7 +3,7 @@
 use Prim.Native.Nat.{_+_}
 use native.Mathlib.Omega.{arith}
 use lib.ListN.{set, length-set}
-use Rattle.c_layout.proofs.OverLaws.{put-one, put-next}
+use Rattle.bits.proofs.OverLaws.{put-one, put-next}
 use borrow.Author.Needs.{needs}
 use Rattle.image_outline.proofs.put_row.Statement.{statement}
 use Rattle.image_outline.proofs.put_row.Tie as tie

@@ -3,7 +3,7 @@
 use native.Mathlib.Omega.{arith}
 use borrow.Author.Needs.{needs}
 use Rattle.c_layout.specs.ContentsBytes.{rowBytes, envelopeBytes}
-use Rattle.c_layout.proofs.OverLaws.{put-next}
+use Rattle.bits.proofs.OverLaws.{put-next}
 use Rattle.c_layout.proofs.answers.put_envelope.Statement.{statement}
 use Rattle.c_layout.proofs.answers.put_envelope.Tie as tie
 

@@ -6,7 +6,7 @@ use native.Mathlib.Omega.{arith}
 use borrow.Author.Needs.{needs}
 use lib.ListN.{length}
 use Rattle.c_layout.specs.ContentsBytes.{envelopesBytes}
-use Rattle.c_layout.proofs.OverLaws.{Put, put-none, put-next, put-as, put-length}
+use Rattle.bits.proofs.OverLaws.{Put, put-none, put-next, put-as, put-length}
 use Rattle.c_layout.proofs.EnvelopeLaws.{envelopes-more}
 use Rattle.c_layout.proofs.answers.put_envelopes.Statement.{statement}
 use Rattle.c_layout.proofs.answers.put_envelopes.Tie as tie

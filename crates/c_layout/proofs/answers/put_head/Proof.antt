@@ -5,9 +5,9 @@ use mathlib.Core.Path.{refl, _∙_}
 use native.Mathlib.Omega.{arith}
 use lib.ListN.{length}
 use borrow.Author.Needs.{needs}
-use Rattle.c_layout.specs.Bytes.{wordOf}
+use Rattle.bits.specs.Bytes.{wordOf}
 use Rattle.c_layout.specs.ContentsBytes.{headerBytes, frameBytes, extensionBytes, answerHead}
-use Rattle.c_layout.proofs.OverLaws.{Put, put-next}
+use Rattle.bits.proofs.OverLaws.{Put, put-next}
 use Rattle.c_layout.proofs.answers.put_head.Statement.{statement}
 use Rattle.c_layout.proofs.answers.put_head.Tie as tie
 

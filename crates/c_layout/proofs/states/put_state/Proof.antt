@@ -6,7 +6,7 @@ use native.Mathlib.Omega.{arith}
 use lib.ListN.{length}
 use borrow.Author.Needs.{needs}
 use Rattle.c_layout.specs.StateBytes.{stateHead, recordBytes, stateBytes}
-use Rattle.c_layout.proofs.OverLaws.{Put, put-next}
+use Rattle.bits.proofs.OverLaws.{Put, put-next}
 use Rattle.c_layout.proofs.states.put_state.Statement.{statement}
 use Rattle.c_layout.proofs.states.put_state.Tie as tie
 

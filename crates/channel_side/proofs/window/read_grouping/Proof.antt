@@ -10,12 +10,12 @@ returns : tie.Need-returns
 unfolding groupingOf
 returns c = rw (c .before .if1 .taken) (c .read-field .ensures)
 
-read-flag-requires : tie.Need-read-flag-requires
-read-flag-requires c κs = search needs
+read-unset-bit-requires : tie.Need-read-unset-bit-requires
+read-unset-bit-requires c κs = search needs
 
 returns-2 : tie.Need-returns-2
 unfolding groupingOf
-returns-2 c = rw (c .before .if1 .left) (c .read-flag .ensures)
+returns-2 c = rw (c .before .if1 .left) (c .read-unset-bit .ensures)
 
 pub read-grouping-spec : {M : Type 1} → statement M
-read-grouping-spec = tie.close (tie.spec read-field-requires returns read-flag-requires returns-2)
+read-grouping-spec = tie.close (tie.spec read-field-requires returns read-unset-bit-requires returns-2)

@@ -8,8 +8,8 @@ use borrow.Author.Needs.{needs}
 use Rattle.channel_side.proofs.window.read_window.Statement.{statement}
 use Rattle.channel_side.proofs.window.read_window.Tie as tie
 
-read-flag-requires : tie.Need-read-flag-requires
-read-flag-requires c κs = search needs
+read-unset-bit-requires : tie.Need-read-unset-bit-requires
+read-unset-bit-requires c κs = search needs
 
 enum-known-f1 : tie.Need-enum-known-f1
 enum-known-f1 c = search needs
@@ -24,7 +24,7 @@ returns : tie.Need-returns
 unfolding window
 returns c =
     let k1 = c .before .before .before in
-    let e1 = answered (k1 .read-flag .ensures) (c .before .enum-told .given .1) in
+    let e1 = answered (k1 .read-unset-bit .ensures) (c .before .enum-told .given .1) in
     let z = c .refusal .ensures ∙ ap windowRefusal (c .before .enum-told .given .1) in
     rw (z, e1) (refl, tt)
 
@@ -47,7 +47,7 @@ returns-2 c =
     let e2 = answered (k2 .read-field .ensures) (c .before .enum-told2 .given .1) in
     let g1 = k2 .before .before in
     let k1 = g1 .before .before in
-    let e1 = answered (k1 .read-flag .ensures) (g1 .f1 .given .1) in
+    let e1 = answered (k1 .read-unset-bit .ensures) (g1 .f1 .given .1) in
     let z = c .refusal2 .ensures ∙ ap windowRefusal (c .before .enum-told2 .given .1) in
     rw (z, e1, e2) (refl, tt)
 
@@ -73,7 +73,7 @@ returns-3 c =
     let e2 = answered (k2 .read-field .ensures) (g2 .f2 .given .1) in
     let g1 = k2 .before .before in
     let k1 = g1 .before .before in
-    let e1 = answered (k1 .read-flag .ensures) (g1 .f1 .given .1) in
+    let e1 = answered (k1 .read-unset-bit .ensures) (g1 .f1 .given .1) in
     let z = c .refusal3 .ensures ∙ ap windowRefusal (c .before .enum-told3 .given .1) in
     rw (z, e1, e2, e3) (refl, tt)
 
@@ -102,7 +102,7 @@ returns-4 c =
     let e2 = answered (k2 .read-field .ensures) (g2 .f2 .given .1) in
     let g1 = k2 .before .before in
     let k1 = g1 .before .before in
-    let e1 = answered (k1 .read-flag .ensures) (g1 .f1 .given .1) in
+    let e1 = answered (k1 .read-unset-bit .ensures) (g1 .f1 .given .1) in
     let z = c .refusal4 .ensures ∙ ap windowRefusal (c .before .enum-told4 .given .1) in
     rw (z, e1, e2, e3, e4) (refl, tt)
 
@@ -134,7 +134,7 @@ returns-5 c =
     let e2 = answered (k2 .read-field .ensures) (g2 .f2 .given .1) in
     let g1 = k2 .before .before in
     let k1 = g1 .before .before in
-    let e1 = answered (k1 .read-flag .ensures) (g1 .f1 .given .1) in
+    let e1 = answered (k1 .read-unset-bit .ensures) (g1 .f1 .given .1) in
     let z = c .refusal5 .ensures ∙ ap windowRefusal (c .before .enum-told5 .given .1) in
     rw (z, e1, e2, e3, e4, e5) (refl, tt)
 
@@ -174,14 +174,14 @@ returns-6 c =
     let e2 = answered (k2 .read-field .ensures) (g2 .f2 .given .1) in
     let g1 = k2 .before .before in
     let k1 = g1 .before .before in
-    let e1 = answered (k1 .read-flag .ensures) (g1 .f1 .given .1) in
+    let e1 = answered (k1 .read-unset-bit .ensures) (g1 .f1 .given .1) in
     rw (e1, e2, e3, e4, e5) (refl, max-sfb-bound _ _ _ _ _ _ _ e4)
 
 pub read-window-spec : {M : Type 1} → statement M
 read-window-spec =
     tie.close
     (tie.spec
-    read-flag-requires
+    read-unset-bit-requires
     enum-known-f1
     enum-told
     refusal-requires

@@ -12,7 +12,7 @@ use Rattle.bits.specs.declared.Ended.{Ended}
 use Rattle.bits.proofs.LoopLaws.{counted-start, counted-more, counted-stop, counted-done, more-got, more-refused}
 use Rattle.stereo_indices.specs.Record.{recordOf}
 use Rattle.stereo_indices.specs.Rows.{recordAfterRows}
-use Rattle.stereo_indices.proofs.ArrayLaws.{Filled, filled-none, filled-set, taken-set, filled-padded}
+use Rattle.bits.proofs.PaddedLaws.{Filled, filled-none, filled-set, taken-set, filled-padded}
 use Rattle.stereo.specs.Extension.{noPhases, ipds, opds, phasesIn, phasesNext}
 use Rattle.stereo.specs.declared.Phases.{Phases}
 use Rattle.stereo.specs.declared.PhaseRecords.{PhaseRecords}

@@ -51,15 +51,15 @@ returns-2 c =
     ap (λ (x : Ended). endedAnswer x (c .refused-body2 .result .body)) (c .refused-body2 .ensures ∙ t)
     ∙ v0-cut _ _ _ _ _ _ _ _ _ _ _ (answered (k .before .before .read-phase-flag .ensures) (k .f1 .given .1)) (ended-is (r .read-all-phases .result .phases) (r .read-all-phases .ensures) t)
 
-read-reserved-requires : tie.Need-read-reserved-requires
-read-reserved-requires c κs = search needs
+read-unset-bit-requires : tie.Need-read-unset-bit-requires
+read-unset-bit-requires c κs = search needs
 
 passed-on-requires-2 : tie.Need-passed-on-requires-2
 passed-on-requires-2 c κs = search needs
 
 returns-3 : tie.Need-returns-3
 returns-3 c =
-    let z = c .before .read-reserved in
+    let z = c .before .read-unset-bit in
     let e = c .before .before .before in
     let r = e .before .before .before in
     let k = r .before .before in
@@ -82,6 +82,6 @@ read-v0-spec =
     enum-told-2
     refused-body-requires-2
     returns-2
-    read-reserved-requires
+    read-unset-bit-requires
     passed-on-requires-2
     returns-3)

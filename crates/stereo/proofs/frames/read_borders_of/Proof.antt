@@ -10,7 +10,7 @@ use Rattle.bits.specs.Field.{field}
 use Rattle.bits.specs.Loop.{counted, more}
 use Rattle.bits.proofs.Taken.{answered}
 use Rattle.bits.proofs.LoopLaws.{counted-start, counted-more, counted-stop, counted-done, more-got, more-refused}
-use Rattle.stereo_indices.proofs.ArrayLaws.{Filled, filled-none, filled-set, taken-set, filled-padded}
+use Rattle.bits.proofs.PaddedLaws.{Filled, filled-none, filled-set, taken-set, filled-padded}
 use Rattle.stereo.specs.Frame.{noBorders}
 use Rattle.stereo.proofs.FrameLaws.{borders-got, borders-refused}
 use Rattle.stereo.proofs.frames.read_borders_of.Statement.{statement}

@@ -22,7 +22,7 @@ use Rattle.stereo_indices.specs.Answers.{indexAnswer}
 use Rattle.stereo_indices.specs.Indices.{reference, indexFrom, index}
 use Rattle.stereo_indices.proofs.KindLaws.{in-range-abs, pick-fits}
 use Rattle.stereo_indices.proofs.IndexLaws.{index-ranged, indices-got, indices-refused}
-use Rattle.stereo_indices.proofs.ArrayLaws.{Filled, filled-none, filled-set, taken-set, taken-long, filled-padded, last-set}
+use Rattle.bits.proofs.PaddedLaws.{Filled, filled-none, filled-set, taken-set, taken-long, filled-padded, last-set}
 use Rattle.stereo_indices.proofs.indices.read_indices.Statement.{statement}
 use Rattle.stereo_indices.proofs.indices.read_indices.Tie as tie
 

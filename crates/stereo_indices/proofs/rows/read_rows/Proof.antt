@@ -14,7 +14,7 @@ use Rattle.stereo_indices.specs.Rows.{noRow, noRows, recordAfterRows, ro
 use Rattle.stereo_indices.specs.declared.Record.{Record}
 use Rattle.stereo_indices.specs.declared.Kind.{Kind}
 use Rattle.stereo_indices.specs.declared.Row.{Row}
-use Rattle.stereo_indices.proofs.ArrayLaws.{Filled, filled-none, filled-set, taken-set, filled-padded}
+use Rattle.bits.proofs.PaddedLaws.{Filled, filled-none, filled-set, taken-set, filled-padded}
 use Rattle.stereo_indices.proofs.RowLaws.{rows-got, rows-refused, recordAfterRows-more}
 use Rattle.stereo_indices.proofs.rows.read_rows.Statement.{statement}
 use Rattle.stereo_indices.proofs.rows.read_rows.Tie as tie

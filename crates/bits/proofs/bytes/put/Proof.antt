@@ -1,0 +1,70 @@
+-- So many bytes are copied after each turn; at the end all of them are put over what was there.
+-- Assumes nothing.
+use Prim.Native.Nat.{_-_, _≤_}
+use mathlib.Core.Path.{_≡_, refl, _∙_}
+use native.Mathlib.Omega.{arith}
+use native.Mathlib.Numerals.{add-one}
+use borrow.Author.Needs.{needs}
+use lib.ListN.{length, length-set}
+use lib.Seq.{paste, paste-zero, paste-suc}
+use Rattle.bits.proofs.OverLaws.{pasted}
+use Rattle.bits.proofs.bytes.put.Statement.{statement}
+use Rattle.bits.proofs.bytes.put.Tie as tie
+
+abbrev Inv-loop : tie.InvT-loop
+Inv-loop out₀ at bytes i₀ out i = (i ≤ length bytes) × (length out ≡ length out₀) × (out ≡ paste out₀ at bytes i)
+
+abbrev μ-loop : tie.MeasureT-loop
+μ-loop out₀ at bytes i₀ out i = length bytes - i
+
+loop-holds : tie.Need-loop-holds Inv-loop μ-loop
+loop-holds c =
+    let a = c .args in
+    (omega arith, refl, paste-zero (a .out .now) (a .at) (a .bytes .now))
+
+shared-slice-read-out : tie.Need-shared-slice-read-out Inv-loop μ-loop
+shared-slice-read-out c = search needs
+
+add-out : tie.Need-add-out Inv-loop μ-loop
+add-out c = search needs
+
+slice-write-out : tie.Need-slice-write-out Inv-loop μ-loop
+slice-write-out c = search needs
+
+add-i : tie.Need-add-i Inv-loop μ-loop
+add-i c = search needs
+
+loop-less : tie.Need-loop-less Inv-loop μ-loop
+loop-less c = search needs
+
+loop-again : tie.Need-loop-again Inv-loop μ-loop
+loop-again c =
+    let a = c .before .before .before .args in
+    let l = c .before .before .loop in
+    (omega arith, simp length-set (l .inv .1), rw (l .inv .2, paste-suc (a .out .now) (a .at) (a .bytes .now) (l .i) 0 (omega arith) (omega arith), add-one))
+
+same-length : tie.Need-same-length Inv-loop μ-loop
+same-length c = search needs
+
+returns : tie.Need-returns Inv-loop μ-loop
+returns c =
+    let a = c .before .before .args in
+    let l = c .before .loop in
+    let e : l .i ≡ length (a .bytes .now) = omega arith in
+    l .inv .2 ∙ rw e (pasted (a .out .now) (a .at) (a .bytes .now))
+
+pub put-spec : {M : Type 1} → statement M
+put-spec =
+    tie.close
+    (tie.spec
+    Inv-loop
+    μ-loop
+    loop-holds
+    shared-slice-read-out
+    add-out
+    slice-write-out
+    add-i
+    loop-less
+    loop-again
+    same-length
+    returns)

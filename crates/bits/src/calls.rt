@@ -1,0 +1,19 @@
+// What every call judges before anything is read.
+ghost use mathlib.Core.Path.{_≡_};
+ghost use Rattle.bits.specs.Calls.{callRefusal};
+
+// What is judged of a range and of room for an answer: a refusal's number, or 0.
+pub fn call_refusal(size: usize, start: usize, end: usize, need: usize, room: usize) -> u32
+    ensures { λ r. ⌜ r ≡ callRefusal size start end need room ⌝ }
+{
+    if end < start {
+        return 1;
+    }
+    if size < end {
+        return 1;
+    }
+    if room < need {
+        return 2;
+    }
+    0
+}

@@ -1,0 +1,39 @@
+-- A byte below 128 is its index as it stands; any other is lowered by 256 by way of 16 bits.
+-- Assumes nothing.
+use mathlib.Core.Path.{_∙_}
+use mir.Syntax.{w8, w16}
+use mir.Facts.{sfits-widen}
+use mir.ValLaws.{toZ-ofZ, toZ-fits}
+use borrow.Author.Needs.{needs}
+use Rattle.c_layout.proofs.Turn.{lowered}
+use Rattle.c_layout.proofs.indices.index_of.Statement.{statement}
+use Rattle.c_layout.proofs.indices.index_of.Tie as tie
+
+cast-result : tie.Need-cast-result
+cast-result c = search needs
+
+cast-result-2 : tie.Need-cast-result-2
+cast-result-2 c = search needs
+
+sub-result : tie.Need-sub-result
+sub-result c =
+    let b = c .before .args .b in
+    let f = c .before .fits .b in
+    rw (lowered b (c .if1 .left) (f .fits)) (sfits-widen tt (toZ-fits w8 b f))
+
+cast-result-3 : tie.Need-cast-result-3
+cast-result-3 c =
+    let b = c .before .args .b in
+    let f = c .before .fits .b in
+    rw (toZ-ofZ w16 _ (sub-result c), lowered b (c .if1 .left) (f .fits)) (toZ-fits w8 b f)
+
+returns : tie.Need-returns
+returns c = search needs
+
+returns-2 : tie.Need-returns-2
+returns-2 c =
+    let b = c .before .args .b in
+    toZ-ofZ w8 _ (cast-result-3 c) ∙ toZ-ofZ w16 _ (sub-result c) ∙ lowered b (c .if1 .left) (c .before .fits .b .fits)
+
+pub index-of-spec : {M : Type 1} → statement M
+index-of-spec = tie.close (tie.spec cast-result cast-result-2 sub-result cast-result-3 returns returns-2)

@@ -1,0 +1,28 @@
+use mathlib.Core.Path.{_≡_, _∙_}
+use lib.ListN.{length}
+use borrow.Author.Needs.{needs}
+use Rattle.c_layout.proofs.indices.put_numbered.Statement.{statement}
+use Rattle.c_layout.proofs.indices.put_numbered.Tie as tie
+
+numbered-bytes-requires : tie.Need-numbered-bytes-requires
+numbered-bytes-requires c κs = search needs
+
+slice-aggregate-put : tie.Need-slice-aggregate-put
+slice-aggregate-put c = search needs
+
+put-requires : tie.Need-put-requires
+put-requires c κs = search needs
+
+same-length : tie.Need-same-length
+same-length c = search needs
+
+returns : tie.Need-returns
+returns c =
+    let all = c .before .before .before .before .before in
+    let long : length (all .numbered-bytes .result) ≡ 35 = search needs in
+    (c .before .before .put .ensures ∙ rw (all .numbered-bytes .ensures), rw (all .numbered-bytes .ensures) at long)
+
+pub put-numbered-spec : {M : Type 1} → statement M
+put-numbered-spec =
+    tie.close
+    (tie.spec numbered-bytes-requires slice-aggregate-put put-requires same-length returns)
