@@ -5,8 +5,8 @@ use lib.Dec.{eqb}
 use lib.ListN.{length}
 use Rattle.bits.specs.Reader.{pick}
 use Rattle.bits.specs.Payload.{range}
-use Rattle.stereo.specs.Stereo.{readBytes}
-use Rattle.stereo.specs.declared.Reading.{Reading}
+use Rattle.stereo_reader.specs.Reading.{readBytes}
+use Rattle.stereo_reader.specs.declared.Reading.{Reading}
 use Rattle.bits.specs.Bytes.{over}
 use Rattle.c_layout.specs.StateBytes.{stateBytes, stateAt, soundBytes}
 use Rattle.c_layout.specs.ContentsBytes.{answerBytes}

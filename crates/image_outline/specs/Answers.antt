@@ -9,9 +9,9 @@ use Rattle.bits.specs.Reader.{Answer, pick}
 use Rattle.channel.specs.Stream.{Stream}
 use Rattle.channel.specs.Promise.{channel}
 use Rattle.stereo.specs.State.{fresh}
-use Rattle.stereo.specs.Stereo.{readFrom}
+use Rattle.stereo_reader.specs.Reading.{readFrom}
 use Rattle.stereo.specs.declared.State.{State}
-use Rattle.stereo.specs.declared.Reading.{Reading}
+use Rattle.stereo_reader.specs.declared.Reading.{Reading}
 use Rattle.image.specs.Image.{bytesOf}
 
 abbrev pub isEven : ℕ → Bool

@@ -7,7 +7,7 @@ use lib.IntN.{ℤ, natAbs}
 use lib.ListN.{length}
 use Rattle.bits.specs.Reader.{Answer, got, refused, pick}
 use Rattle.channel.specs.Stream.{Stream}
-use Rattle.stereo.specs.declared.Reading.{Reading}
+use Rattle.stereo_reader.specs.declared.Reading.{Reading}
 use Rattle.stereo.specs.declared.State.{State}
 use Rattle.image.specs.Image.{bytesOf, refusedHeader, headerOf}
 use Rattle.image.specs.declared.Header.{Header}

@@ -1,7 +1,7 @@
 -- Every line of the table of bench examples holds.
 -- Assumes nothing.
 use mathlib.Core.Path.{_≡_, refl}
-use Rattle.stereo.proofs.All.{all as stereoAll}
+use Rattle.stereo_reader.proofs.All.{all as stereoAll}
 use Rattle.channel.proofs.All.{all as channelAll}
 use Rattle.promises.specs.Bench.{bench, allShown, allWanted}
 

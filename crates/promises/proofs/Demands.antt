@@ -15,10 +15,10 @@ use Rattle.channel.specs.Promise.{channel}
 use Rattle.channel.proofs.Demands.{only-the-range, cut-is-10}
 use Rattle.stereo.specs.State.{sound, lost}
 use Rattle.stereo.specs.Payload.{payload}
-use Rattle.stereo.specs.Stereo.{from, refusal, readBytes, readFrom}
+use Rattle.stereo_reader.specs.Reading.{from, refusal, readBytes, readFrom}
 use Rattle.stereo.specs.declared.State.{State}
 use Rattle.stereo.specs.declared.Contents.{Contents}
-use Rattle.stereo.proofs.StereoLaws.{outside-counts-not, read-cut}
+use Rattle.stereo_reader.proofs.ReadingLaws.{outside-counts-not, read-cut}
 use Rattle.stereo_writer.specs.Spelling.{spelling}
 use Rattle.stereo_writer.specs.Writing.{writing}
 use Rattle.stereo_writer.proofs.WritingLaws.{write-read, read-write}

@@ -9,9 +9,9 @@ use Rattle.bits.specs.Lists.{padded}
 use Rattle.stereo_indices.specs.Rows.{noRow}
 use Rattle.stereo.specs.State.{fresh}
 use Rattle.stereo.specs.Extension.{noPhases}
-use Rattle.stereo.specs.Stereo.{readFrom}
-use Rattle.stereo.specs.declared.Reading.{Reading}
-use Rattle.stereo.proofs.All.{all}
+use Rattle.stereo_reader.specs.Reading.{readFrom}
+use Rattle.stereo_reader.specs.declared.Reading.{Reading}
+use Rattle.stereo_reader.proofs.All.{all}
 
 abbrev bytes : List ℕ
 bytes =

@@ -17,11 +17,11 @@ use Rattle.stereo.specs.State.{fresh, lost}
 use Rattle.stereo.specs.Frame.{noFrame, noBorders}
 use Rattle.stereo.specs.Extension.{noPart, noExtension}
 use Rattle.stereo.specs.Payload.{noContents}
-use Rattle.stereo.specs.Stereo.{refusal, readFrom}
+use Rattle.stereo_reader.specs.Reading.{refusal, readFrom}
 use Rattle.stereo.specs.declared.State.{State}
 use Rattle.stereo.specs.declared.Contents.{Contents}
-use Rattle.stereo.specs.declared.Reading.{Reading}
-use Rattle.stereo.proofs.All.{all}
+use Rattle.stereo_reader.specs.declared.Reading.{Reading}
+use Rattle.stereo_reader.proofs.All.{all}
 
 -- 34 indices, a row across frequency or time, and a record
 abbrev row : ℕ → List ℤ → Row

@@ -12,10 +12,11 @@ use Rattle.bits.specs.Payload.{inBuffer, range, whole}
 use Rattle.stereo.specs.State.{sound, lost}
 use Rattle.stereo.specs.Payload.{payload}
 use Rattle.stereo.specs.Carried.{carried}
-use Rattle.stereo.specs.Stereo.{restart, from, refusal, taken, readingOf, readBytes, readFrom, missing}
+use Rattle.stereo.specs.Restart.{restart}
+use Rattle.stereo_reader.specs.Reading.{from, refusal, taken, readingOf, readBytes, readFrom, missing}
 use Rattle.stereo.specs.declared.State.{State}
 use Rattle.stereo.specs.declared.Contents.{Contents}
-use Rattle.stereo.proofs.StereoLaws.{fresh-sound, lost-sound}
+use Rattle.stereo.proofs.StateLaws.{fresh-sound, lost-sound}
 use Rattle.stereo_laws.proofs.SoundLaws.{carried-sound}
 use Rattle.stereo_laws.proofs.RestartLaws.{same-read, same-carried}
 use Rattle.stereo_writer.proofs.PayloadNumbers.{whole-not-0}

@@ -13,11 +13,11 @@ use Rattle.bit_reader.specs.Took.{tookAt}
 use Rattle.bit_reader.specs.declared.Took.{Took}
 use Rattle.bit_reader.specs.declared.BitReader.{BitReader}
 use Rattle.stereo.specs.State.{fresh, sound}
-use Rattle.stereo.specs.Stereo.{readFrom, missing}
+use Rattle.stereo_reader.specs.Reading.{readFrom, missing}
 use Rattle.stereo.specs.declared.State.{State}
 use Rattle.stereo.specs.declared.Contents.{Contents}
-use Rattle.stereo.specs.declared.Reading.{Reading}
-use Rattle.stereo.specs.declared.Report.{Report}
+use Rattle.stereo_reader.specs.declared.Reading.{Reading}
+use Rattle.stereo_reader.specs.declared.Report.{Report}
 use Rattle.stereo_writer.specs.Writing.{writing, writtenOver}
 use Rattle.stereo_writer.specs.declared.Written.{Written}
 use Rattle.stereo_lent.specs.Lent.{answerOf}

@@ -11,8 +11,8 @@ use Rattle.channel.specs.Stream.{Stream, stream}
 use Rattle.stereo_indices.specs.Indices.{index}
 use Rattle.stereo_indices.specs.declared.Kind.the-variants.{Iid, Ipd}
 use Rattle.stereo.specs.State.{fresh, lost}
-use Rattle.stereo.specs.Stereo.{readFrom}
-use Rattle.stereo.specs.declared.Reading.{Reading}
+use Rattle.stereo_reader.specs.Reading.{readFrom}
+use Rattle.stereo_reader.specs.declared.Reading.{Reading}
 
 pub record Example : Type 0 where
   pub shown : List ℕ

@@ -5,11 +5,11 @@ use Rattle.bits.specs.Payload.{whole}
 use Rattle.stereo.specs.State.{fresh, sound, lost}
 use Rattle.stereo.specs.Payload.{payload}
 use Rattle.stereo.specs.Carried.{carried}
-use Rattle.stereo.specs.Stereo.{restart}
+use Rattle.stereo.specs.Restart.{restart}
 use Rattle.stereo.specs.declared.State.{State}
 use Rattle.stereo.specs.declared.Contents.{Contents}
-use Rattle.stereo.specs.declared.Reading.{Reading}
-use Rattle.stereo.specs.declared.Report.{Report}
+use Rattle.stereo_reader.specs.declared.Reading.{Reading}
+use Rattle.stereo_reader.specs.declared.Report.{Report}
 use Rattle.runs.specs.Machine.{Machine, answered, refusal, reported, Turn}
 
 abbrev pub stereo : Machine State Contents

@@ -26,7 +26,7 @@ use Rattle.stereo_indices.specs.declared.Kind.the-variants.{Ipd, Opd}
 use Rattle.stereo_indices.specs.declared.Record.{Record}
 use Rattle.stereo_indices.specs.declared.Row.{Row}
 use Rattle.stereo_indices.proofs.RowLaws.{recordAfterRows-more}
-use Rattle.stereo.specs.Answers.{endedInside}
+use Rattle.stereo.specs.InnerAnswers.{endedInside}
 use Rattle.stereo.specs.Extension.{noPhases, noPart, ipds, opds, phasesIn, phasesNext, phasesOf, phases, phaseFlag, v0, another, part, announced, escCount, extensionSent}
 use Rattle.stereo.specs.declared.Body.{Body}
 use Rattle.stereo.specs.declared.Part.{Part}

@@ -6,6 +6,5 @@ pub mod ContentsLaws
 pub mod TurnLaws
 pub mod PayloadLaws
 pub mod PayloadNear
-pub mod BytesLaws
 pub mod All
-pub mod StereoLaws
+pub mod StateLaws

@@ -16,13 +16,14 @@ use Rattle.bits.specs.Field.{field}
 use Rattle.bits.proofs.Taken.{field-below}
 use Rattle.bits.proofs.Lawful.{split, same-value}
 use Rattle.stereo_indices.specs.Kind.{bands}
-use Rattle.stereo_indices.specs.Difference.{differenceTable, difference}
+use Rattle.stereo_indices.specs.Difference.{difference}
 use Rattle.stereo_indices.specs.Indices.{indexFrom, index, indices}
 use Rattle.stereo_indices.specs.Rows.{row, rowsOf, rows}
 use Rattle.stereo_indices.specs.declared.Kind.{Kind}
 use Rattle.stereo_indices.specs.declared.Kind.the-variants.{Iid, Icc}
 use Rattle.stereo_indices.specs.declared.Record.{Record}
-use Rattle.stereo_indices.proofs.KindLaws.{bands-le, table-below}
+use Rattle.stereo_indices.proofs.KindLaws.{bands-le, of-table}
+use Rattle.tables.specs.Tables.{wordOf}
 use Rattle.stereo.specs.Header.{mode, headerFields, header, setupAfter}
 use Rattle.stereo.specs.Frame.{envelopeCount, bordersOf, borders, frame}
 use Rattle.stereo.specs.Extension.{part, announced, escCount, extensionSent, extension}
@@ -39,7 +40,7 @@ use Rattle.stereo.proofs.PayloadLaws.{part-filling}
 
 index-near : (k : Kind) (m t : ℕ) (before xs : List ℤ) → Near 20 (index k m t before xs)
 unfolding index indexFrom difference
-index-near k m t before xs = bind-near 20 0 _ _ (expecting-near 32 _ 20 _ (word-near (differenceTable k m t) (table-below k m t))) λ e. give-near 0 _
+index-near k m t before xs = bind-near 20 0 _ _ (expecting-near 32 _ 20 _ (of-table (λ t. Near 20 (wordOf t)) word-near k m t)) λ e. give-near 0 _
 
 row-near : (k : Kind) (m : ℕ) (h : Record) → Near 681 (row k m h)
 unfolding row indices

@@ -4,5 +4,5 @@ pub mod Frame
 pub mod Extension
 pub mod Payload
 pub mod Carried
-pub mod Stereo
-pub mod Answers
+pub mod Restart
+pub mod InnerAnswers

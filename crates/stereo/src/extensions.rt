@@ -10,7 +10,7 @@ ghost use Rattle.bits.specs.Answers.{fieldAnswer, endedAnswer, passedOn};
 ghost use Rattle.tables.specs.Tables.{Tables};
 ghost use Rattle.stereo_indices.specs.Record.{recordOf};
 ghost use Rattle.stereo.specs.Extension.{noPhases, noBody, noPart, noExtension, phasesIn, phasesOf, phases, hasMode, phaseFlag, v0, part, announced, escCount, extensionSent, extension};
-ghost use Rattle.stereo.specs.Answers.{endedInside};
+ghost use Rattle.stereo.specs.InnerAnswers.{endedInside};
 use crate::Body;
 use crate::Extension;
 use crate::Part;

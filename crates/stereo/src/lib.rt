@@ -1,4 +1,4 @@
-// The stereo state, and the reading of one parametric stereo payload.
+// The stereo state, a payload's fields and contents, and what is carried on.
 use bits::Ended;
 use stereo_indices::Record;
 use stereo_indices::Row;
@@ -140,18 +140,4 @@ pub struct ReadExtension {
 pub struct ReadContents {
     pub ended: Ended,
     pub contents: Contents,
-}
-
-// The answer to a payload: the refusal, or 0, how many bits it used, its contents, and the next state.
-pub struct Reading {
-    pub number: u8,
-    pub bits: usize,
-    pub contents: Contents,
-    pub state: State,
-}
-
-// The answer to a report: the refusal, or 0, and the next state.
-pub struct Report {
-    pub number: u8,
-    pub state: State,
 }

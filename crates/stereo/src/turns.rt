@@ -6,7 +6,7 @@ ghost use lib.ListN.{getD};
 ghost use Rattle.stereo_indices.specs.Rows.{noRow};
 ghost use Rattle.stereo.specs.Extension.{noPhases};
 ghost use Rattle.stereo.specs.Carried.{recordAfter, lastRow, lastPhases, phaseRecords, carried};
-ghost use Rattle.stereo.specs.Stereo.{across, phasesAcross, restart};
+ghost use Rattle.stereo.specs.Restart.{across, phasesAcross, restart};
 use crate::Body;
 use crate::Contents;
 use crate::PhaseRecords;

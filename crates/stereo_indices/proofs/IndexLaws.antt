@@ -7,20 +7,23 @@ use mathlib.Core.Bool.{true, false}
 use lib.IntN.{ℤ, pos}
 use Rattle.bits.specs.Reader.{Answer, got, refused, give, expecting}
 use Rattle.bits.proofs.Lawful.{split, tested-got, same-value}
-use Rattle.tables.specs.Tables.{wordOf}
+use Rattle.tables.specs.Tables.{Table, wordOf}
+use Rattle.stereo_indices.proofs.KindLaws.{table-is}
 use Rattle.tables.specs.Names.{tableAt}
 use Rattle.bits.specs.Loop.{counted, more, listed}
 use Rattle.stereo_indices.specs.Kind.{bands, inRange}
-use Rattle.stereo_indices.specs.Difference.{differenceTable, difference, added}
+use Rattle.stereo_indices.specs.Difference.{difference, added}
+use Rattle.stereo_indices.specs.InnerTables.{differenceNumber}
 use Rattle.bits.specs.Lists.{padded}
 use Rattle.stereo_indices.specs.Indices.{indexFrom, index, indices}
 use Rattle.stereo_indices.specs.declared.Kind.{Kind}
 
 module _ (k : Kind) (mode time : ℕ) (s : List ℕ) (at end : ℕ) where
   -- the word of the table that the code chose
-  pub difference-is : (table : ℕ) {a : Answer ℕ} → table ≡ differenceTable k mode time → wordOf (tableAt table) s at end ≡ a → difference k mode time s at end ≡ a
+  pub difference-is : (table : ℕ) {a : Answer ℕ} → table ≡ differenceNumber k mode time → wordOf (tableAt table) s at end ≡ a → difference k mode time s at end ≡ a
   unfolding difference
-  difference-is table e q = ap (λ (t : ℕ). wordOf (tableAt t) s at end) (sym e) ∙ q
+  difference-is table e q =
+      ap (λ (t : Table). wordOf t s at end) (sym (table-is k mode time)) ∙ ap (λ (t : ℕ). wordOf (tableAt t) s at end) (sym e) ∙ q
 
   module _ (x : ℤ) where
     pub index-got : (e next : ℕ) → difference k mode time s at end ≡ got e next → inRange k mode (added k mode x e) ≡ true

@@ -1,7 +1,7 @@
 -- Bounds of what differs between the kinds: bands, ranges, tables and entries.
 -- Assumes nothing.
 use Prim.Native.Nat.{ℕ, zero, suc, _+_, _-_, _%_, _<_, _≤_, _^_}
-use mathlib.Core.Path.{_≡_, refl, _∙_, ap}
+use mathlib.Core.Path.{_≡_, refl, _∙_, ap, subst}
 use mathlib.Core.List.{List, [], _∷_}
 use mathlib.Core.Bool.{Bool, true, false, not, _&&_}
 use native.Mathlib.Omega.{arith}
@@ -18,11 +18,13 @@ use Rattle.bits.specs.Reader.{got, pick}
 use Rattle.bits.proofs.Bools.{and-both, and-left, and-right, true-false}
 use Rattle.bits.proofs.Signed.{abs-add, abs-neg, thru}
 use Rattle.tables.specs.Tables.{Table, codesOf, lensOf, wordOf}
-use Rattle.tables.specs.Names.{tables, noTable, tableAt}
+use Rattle.tables.specs.Names.{tables, noTable, tableAt, levelDefaultFrequency, levelDefaultTime, levelFineFrequency, levelFineTime}
+use Rattle.tables.specs.Names.{coherenceFrequency, coherenceTime, phaseFrequency, phaseTime, overallPhaseFrequency, overallPhaseTime}
 use Rattle.tables.specs.Words.{allCodes}
 use Rattle.words.proofs.WordLaws.{word-fit}
-use Rattle.stereo_indices.specs.Kind.{isPhase, fine, byMode, bands, least, most, within, inRange}
-use Rattle.stereo_indices.specs.Difference.{firstTable, differenceTable, middle, added}
+use Rattle.stereo_indices.specs.Kind.{isPhase, fine, byMode, bands, byKind, least, most, within, inRange}
+use Rattle.stereo_indices.specs.Difference.{differenceTable, middle, added}
+use Rattle.stereo_indices.specs.InnerTables.{firstNumber, differenceNumber}
 use Rattle.stereo_indices.specs.declared.Kind.{Kind}
 use Rattle.stereo_indices.specs.declared.Kind.the-variants.{Iid, Icc, Ipd, Opd}
 
@@ -98,6 +100,16 @@ within-abs low high x k h g e = let p = and-both (not (ltZ x low)) (not (ltZ hig
 pub in-range-abs : (k : Kind) (mode : ℕ) (x : ℤ) → inRange k mode x ≡ true → natAbs x ≤ 15
 in-range-abs k mode x e = within-abs (least k mode) (most k mode) x 15 (least-abs k mode) (most-abs k mode) e
 
+pub pos-by-kind : (k : Kind) (mode a b c d : ℕ) → byKind k mode (pos a) (pos b) (pos c) (pos d) ≡ pos (byKind k mode a b c d)
+pos-by-kind Iid mode a b c d = go (fine mode)
+  where
+    go : (f : Bool) → pick f (pos a) (pos b) ≡ pos (pick f a b)
+    go true = refl
+    go false = refl
+pos-by-kind Icc mode a b c d = refl
+pos-by-kind Ipd mode a b c d = refl
+pos-by-kind Opd mode a b c d = refl
+
 pub middle-le : (k : Kind) (mode : ℕ) → middle k mode ≤ 30
 unfolding middle
 middle-le Iid mode = go (fine mode)
@@ -143,8 +155,8 @@ few-at (t ∷ ts) e zero h = leb→le (t .count) 61 (and-left (leb (t .count) 61
 few-at (t ∷ ts) e (suc i) h = few-at ts (and-right (leb (t .count) 61) (few ts) e) i (omega arith)
 
 -- and are among the 22
-pub table-below : (k : Kind) (mode time : ℕ) → differenceTable k mode time < 22
-unfolding differenceTable firstTable
+pub table-below : (k : Kind) (mode time : ℕ) → differenceNumber k mode time < 22
+unfolding differenceNumber firstNumber
 table-below k mode time = go k (eqb time 1)
   where
     add : (n : ℕ) (t : Bool) → n < 21 → n + pick t 1 0 < 22
@@ -155,11 +167,41 @@ table-below k mode time = go k (eqb time 1)
     first true = omega arith
     first false = omega arith
 
-    go : (k : Kind) (t : Bool) → firstTable k mode + pick t 1 0 < 22
+    go : (k : Kind) (t : Bool) → firstNumber k mode + pick t 1 0 < 22
     go Iid t = add (pick (fine mode) 14 12) t (first (fine mode))
     go Icc t = add 16 t (omega arith)
     go Ipd t = add 18 t (omega arith)
     go Opd t = add 20 t (omega arith)
+
+-- the same table by name
+pub table-is : (k : Kind) (mode time : ℕ) → tableAt (differenceNumber k mode time) ≡ differenceTable k mode time
+unfolding differenceNumber firstNumber differenceTable
+table-is Iid mode time = go (fine mode) (eqb time 1)
+  where
+    go : (f t : Bool) → tableAt (pick f 14 12 + pick t 1 0) ≡ pick f (pick t levelFineTime levelFineFrequency) (pick t levelDefaultTime levelDefaultFrequency)
+    go true true = refl
+    go true false = refl
+    go false true = refl
+    go false false = refl
+table-is Icc mode time = go (eqb time 1)
+  where
+    go : (t : Bool) → tableAt (16 + pick t 1 0) ≡ pick t coherenceTime coherenceFrequency
+    go true = refl
+    go false = refl
+table-is Ipd mode time = go (eqb time 1)
+  where
+    go : (t : Bool) → tableAt (18 + pick t 1 0) ≡ pick t phaseTime phaseFrequency
+    go true = refl
+    go false = refl
+table-is Opd mode time = go (eqb time 1)
+  where
+    go : (t : Bool) → tableAt (20 + pick t 1 0) ≡ pick t overallPhaseTime overallPhaseFrequency
+    go true = refl
+    go false = refl
+
+-- what holds of each of the 22 tables holds of those of differences
+pub of-table : (P : Table → Type 0) → ((i : ℕ) → i < 22 → P (tableAt i)) → (k : Kind) (mode time : ℕ) → P (differenceTable k mode time)
+of-table P f k mode time = subst P (table-is k mode time) (f (differenceNumber k mode time) (table-below k mode time))
 
 pub entry-le : (table : ℕ) (s : List ℕ) (at end e next : ℕ) → 12 ≤ table → table ≤ 21 → wordOf (tableAt table) s at end ≡ got e next → e ≤ 60
 entry-le table s at end e next h g q =

@@ -8,7 +8,9 @@ use Rattle.bits.proofs.Lawful.{Lawful, bind-lawful, give-lawful, pick-lawful, e
 use Rattle.bits.proofs.FieldLaws.{field-lawful}
 use Rattle.bits.proofs.LoopLaws.{listed-lawful}
 use Rattle.tables.proofs.Rules.{lawful-at}
-use Rattle.stereo_indices.specs.Difference.{differenceTable, difference}
+use Rattle.stereo_indices.specs.Difference.{difference}
+use Rattle.tables.specs.Tables.{wordOf}
+use Rattle.stereo_indices.proofs.KindLaws.{of-table}
 use Rattle.stereo_indices.specs.Indices.{indexFrom, index, indices}
 use Rattle.stereo_indices.specs.Rows.{row, rowsOf, rows}
 use Rattle.stereo_indices.specs.declared.Kind.{Kind}
@@ -18,7 +20,7 @@ ruleset lawful = (bind-lawful, field-lawful, give-lawful, expecting-lawful, pick
 
 difference-lawful : (k : Kind) (mode time : ℕ) → Lawful (difference k mode time)
 unfolding difference
-difference-lawful k mode time = lawful-at (differenceTable k mode time)
+difference-lawful = of-table (λ t. Lawful (wordOf t)) (λ i h. lawful-at i)
 
 pub index-lawful : (k : Kind) (mode time : ℕ) (before xs : List ℤ) → Lawful (index k mode time before xs)
 unfolding index indexFrom

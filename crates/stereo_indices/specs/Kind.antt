@@ -2,7 +2,7 @@
 use Prim.Native.Nat.{ℕ, _%_}
 use mathlib.Core.Bool.{Bool, true, false, not, _&&_}
 use lib.Dec.{eqb, leb}
-use lib.IntN.{ℤ, pos, negsuc}
+use lib.IntN.{ℤ, pos, negℤ}
 use lib.Signed.{ltZ}
 use Rattle.bits.specs.Reader.{pick}
 use Rattle.stereo_indices.specs.declared.Kind.{Kind}
@@ -27,18 +27,19 @@ byMode mode a b c = pick (eqb (mode % 3) 0) a (pick (eqb (mode % 3) 1) b c)
 unfoldable pub bands : Kind → ℕ → ℕ
 bands k mode = pick (isPhase k) (byMode mode 5 11 17) (byMode mode 10 20 34)
 
+-- one of four, by kind and grid: fine levels, default levels, coherence, phases
+abbrev pub byKind : {A : Type 0} → Kind → ℕ → A → A → A → A → A
+byKind Iid mode a b c d = pick (fine mode) a b
+byKind Icc mode a b c d = c
+byKind Ipd mode a b c d = d
+byKind Opd mode a b c d = d
+
 -- IID within 7, in fine modes 15, either way; all others 0 to 7
 unfoldable pub least : Kind → ℕ → ℤ
-least Iid mode = pick (fine mode) (negsuc 14) (negsuc 6)
-least Icc mode = pos 0
-least Ipd mode = pos 0
-least Opd mode = pos 0
+least k mode = byKind k mode (negℤ (pos 15)) (negℤ (pos 7)) (pos 0) (pos 0)
 
 unfoldable pub most : Kind → ℕ → ℤ
-most Iid mode = pick (fine mode) (pos 15) (pos 7)
-most Icc mode = pos 7
-most Ipd mode = pos 7
-most Opd mode = pos 7
+most k mode = byKind k mode (pos 15) (pos 7) (pos 7) (pos 7)
 
 -- not below the one, not above the other
 unfoldable pub within : ℤ → ℤ → ℤ → Bool

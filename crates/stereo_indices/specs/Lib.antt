@@ -3,4 +3,5 @@ pub mod Difference
 pub mod Record
 pub mod Indices
 pub mod Rows
-pub mod Answers
+pub mod InnerAnswers
+pub mod InnerTables

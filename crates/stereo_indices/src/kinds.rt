@@ -1,8 +1,7 @@
 // The four kinds of indices, and what differs between them.
 ghost use mathlib.Core.Path.{_≡_};
 ghost use Prim.Native.Nat.{_≤_};
-ghost use Rattle.bits.specs.Reader.{pick};
-ghost use Rattle.stereo_indices.specs.Kind.{isPhase, fine, byMode, bands, least, most, within};
+ghost use Rattle.stereo_indices.specs.Kind.{isPhase, byMode, bands, byKind, least, most, within};
 use crate::Kind;
 
 // Whether a kind is of phases.
@@ -41,38 +40,35 @@ pub fn bands(kind: Kind, mode: u32) -> usize
     by_mode(mode, 10, 20, 34)
 }
 
-// One of two numbers, the first in fine modes.
-pub fn by_grid(mode: u32, a: i16, b: i16) -> i16
-    ensures { λ r. ⌜ r ≡ pick (fine mode) a b ⌝ }
+// One of four numbers, by kind and grid.
+pub fn by_kind(kind: Kind, mode: u32, fine: i16, plain: i16, coherence: i16, phase: i16) -> i16
+    ensures { λ r. ⌜ r ≡ byKind kind mode fine plain coherence phase ⌝ }
 {
-    if 3 <= mode {
-        return a;
+    match kind {
+        Kind::Iid => {
+            if 3 <= mode {
+                return fine;
+            }
+            plain
+        }
+        Kind::Icc => coherence,
+        Kind::Ipd => phase,
+        Kind::Opd => phase,
     }
-    b
 }
 
 // The least index of a kind.
 pub fn least(kind: Kind, mode: u32) -> i16
     ensures { λ r. ⌜ r ≡ least kind mode ⌝ }
 {
-    match kind {
-        Kind::Iid => by_grid(mode, -15, -7),
-        Kind::Icc => 0,
-        Kind::Ipd => 0,
-        Kind::Opd => 0,
-    }
+    by_kind(kind, mode, -15, -7, 0, 0)
 }
 
 // The greatest index of a kind.
 pub fn most(kind: Kind, mode: u32) -> i16
     ensures { λ r. ⌜ r ≡ most kind mode ⌝ }
 {
-    match kind {
-        Kind::Iid => by_grid(mode, 15, 7),
-        Kind::Icc => 7,
-        Kind::Ipd => 7,
-        Kind::Opd => 7,
-    }
+    by_kind(kind, mode, 15, 7, 7, 7)
 }
 
 // Whether a number is not below one and not above another.

@@ -6,9 +6,10 @@ ghost use lib.IntN.{pos, natAbs};
 ghost use Rattle.bits.specs.Answers.{fieldAnswer};
 ghost use Rattle.tables.specs.Tables.{Tables, wordOf};
 ghost use Rattle.tables.specs.Names.{tableAt};
-ghost use Rattle.stereo_indices.specs.Difference.{firstTable, differenceTable, difference, middle, added};
+ghost use Rattle.stereo_indices.specs.Difference.{middle, added};
 ghost use Rattle.stereo_indices.specs.Indices.{indexFrom};
-ghost use Rattle.stereo_indices.specs.Answers.{indexAnswer};
+ghost use Rattle.stereo_indices.specs.InnerAnswers.{indexAnswer};
+ghost use Rattle.stereo_indices.specs.InnerTables.{firstNumber, differenceNumber};
 use crate::Index;
 use crate::Kind;
 use crate::kinds;
@@ -16,7 +17,7 @@ use bits::Field;
 
 // The number of a kind's first table.
 fn first_table(kind: Kind, mode: u32) -> usize
-    ensures { λ r. ⌜ (r ≡ firstTable kind mode) × (12 ≤ r) × (r ≤ 20) ⌝ }
+    ensures { λ r. ⌜ (r ≡ firstNumber kind mode) × (12 ≤ r) × (r ≤ 20) ⌝ }
 {
     match kind {
         Kind::Iid => {
@@ -33,7 +34,7 @@ fn first_table(kind: Kind, mode: u32) -> usize
 
 // The number of the table of a kind's differences.
 pub fn difference_table(kind: Kind, mode: u32, time: u32) -> usize
-    ensures { λ r. ⌜ (r ≡ differenceTable kind mode time) × (12 ≤ r) × (r ≤ 21) ⌝ }
+    ensures { λ r. ⌜ (r ≡ differenceNumber kind mode time) × (12 ≤ r) × (r ≤ 21) ⌝ }
 {
     let first = first_table(kind, mode);
     if time == 1 {
@@ -65,12 +66,7 @@ fn table_word(s: &[u8], at: usize, end: usize, table: usize, codes: &[u32], lens
 pub fn middle(kind: Kind, mode: u32) -> i16
     ensures { λ r. ⌜ r ≡ pos (middle kind mode) ⌝ }
 {
-    match kind {
-        Kind::Iid => kinds::by_grid(mode, 30, 14),
-        Kind::Icc => 7,
-        Kind::Ipd => 0,
-        Kind::Opd => 0,
-    }
+    kinds::by_kind(kind, mode, 30, 14, 7, 0)
 }
 
 // The magnitude of an index.

@@ -1,3 +1,4 @@
+pub mod Restarting
 pub mod Agree
 pub mod RestartLaws
 pub mod SoundLaws

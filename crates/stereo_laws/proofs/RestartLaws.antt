@@ -29,14 +29,14 @@ use Rattle.stereo.specs.Frame.{frame}
 use Rattle.stereo.specs.Extension.{noPhases, phasesIn, phasesNext, phasesOf, phases, phaseFlag, v0, another, part, announced, escCount, extensionSent, extension}
 use Rattle.stereo.specs.Payload.{envelopes, payload}
 use Rattle.stereo.specs.Carried.{recordAfter, phaseRecords, carriedIn, carried}
-use Rattle.stereo.specs.Stereo.{across, phasesAcross, restart}
+use Rattle.stereo.specs.Restart.{across, phasesAcross, restart}
 use Rattle.stereo.specs.declared.Setup.{Setup}
 use Rattle.stereo.specs.declared.State.{State}
 use Rattle.stereo.specs.declared.Header.{Header}
 use Rattle.stereo.specs.declared.Frame.{Frame}
 use Rattle.stereo.specs.declared.Phases.{Phases}
 use Rattle.stereo.specs.declared.Contents.{Contents}
-use Rattle.stereo_laws.specs.Restarting.{Restart}
+use Rattle.stereo_laws.proofs.Restarting.{Restart}
 use Rattle.stereo_laws.proofs.Agree.{Agree, same-agree, bind-agree, then-agree, pick-agree, inside-agree, first-agree}
 
 -- across frequency the record does not count

@@ -1,5 +1,5 @@
 -- What a call answers beside the lent state.
-use Rattle.stereo.specs.declared.Reading.{Reading}
+use Rattle.stereo_reader.specs.declared.Reading.{Reading}
 use Rattle.stereo_lent.specs.declared.Answer.{Answer}
 use Rattle.stereo_lent.specs.declared.Apart.{Apart}
 

@@ -1,6 +1,6 @@
 // The stereo reader over a state that is lent: the caller keeps one state, and each call leaves the next one in it.
 ghost use mathlib.Core.Path.{_≡_};
-ghost use Rattle.stereo.specs.Stereo.{readFrom, missing};
+ghost use Rattle.stereo_reader.specs.Reading.{readFrom, missing};
 ghost use Rattle.stereo_lent.specs.Lent.{answerOf, apartOf};
 use stereo::Contents;
 use stereo::State;

@@ -1,0 +1,3 @@
+pub mod BytesLaws
+pub mod ReadingLaws
+pub mod All

@@ -3,15 +3,28 @@ ghost use mathlib.Core.Path.{_≡_};
 ghost use mathlib.Core.Bool.{_||_};
 ghost use Prim.Native.Nat.{min};
 ghost use Rattle.stereo.specs.State.{lost};
-ghost use Rattle.stereo.specs.Stereo.{from, refusal, restart, taken, readBytes, readFrom, missing};
+ghost use Rattle.stereo.specs.Restart.{restart};
+ghost use Rattle.stereo_reader.specs.Reading.{from, refusal, taken, readBytes, readFrom, missing};
 use bits::Ended;
 use stereo::Contents;
-use stereo::Reading;
-use stereo::Report;
 use stereo::State;
 use stereo::payloads;
 use stereo::states;
 use stereo::turns;
+
+// The answer to a payload: the refusal, or 0, how many bits it used, its contents, and the next state.
+pub struct Reading {
+    pub number: u8,
+    pub bits: usize,
+    pub contents: Contents,
+    pub state: State,
+}
+
+// The answer to a report: the refusal, or 0, and the next state.
+pub struct Report {
+    pub number: u8,
+    pub state: State,
+}
 
 // A refusal: every other number is 0.
 fn refused(number: u8, state: State) -> Reading

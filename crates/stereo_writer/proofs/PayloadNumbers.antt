@@ -1,6 +1,6 @@
 -- Which numbers a payload's reading refuses with: 10, 13, 31, 32, 33, 34; and a whole payload 12 besides.
 -- Assumes nothing.
-use Rattle.stereo_indices.proofs.KindLaws.{table-below}
+use Rattle.stereo_indices.proofs.KindLaws.{of-table}
 use Prim.Native.Nat.{ℕ, _*_}
 use mathlib.Core.Path.{_≡_, refl, subst}
 use mathlib.Core.List.{List}
@@ -15,10 +15,10 @@ use Rattle.bits.specs.Payload.{whole}
 use Rattle.bits.proofs.Bools.{true-false}
 use Rattle.bits.proofs.Numbered.{Numbered, give-numbered, here-numbered, refusing-numbered, field-numbered, zeroBit-numbered, bind-numbered, expecting-numbered, pick-numbered, listed-numbered, leftOver-numbered, inside-numbered, whole-numbered}
 use Rattle.words.proofs.WordNumbered.{word-numbered}
-use Rattle.tables.specs.Tables.{codesOf, lensOf}
+use Rattle.tables.specs.Tables.{codesOf, lensOf, wordOf}
 use Rattle.tables.specs.Names.{tableAt}
 use Rattle.tables.proofs.Rules.{ruled-at}
-use Rattle.stereo_indices.specs.Difference.{differenceTable, difference}
+use Rattle.stereo_indices.specs.Difference.{difference}
 use Rattle.stereo_indices.specs.Indices.{indexFrom, index, indices}
 use Rattle.stereo_indices.specs.Rows.{row, rowsOf, rows}
 use Rattle.stereo_indices.specs.declared.Kind.{Kind}
@@ -74,9 +74,7 @@ frame-own = search owns depth 24
 
 difference-own : (k : Kind) (mode time : ℕ) → Numbered own (difference k mode time)
 unfolding difference
-difference-own k mode time =
-    let t = tableAt (differenceTable k mode time) in
-    word-numbered own refl (codesOf t) (lensOf t) (ruled-at (differenceTable k mode time) (table-below k mode time))
+difference-own = of-table (λ t. Numbered own (wordOf t)) λ i h. word-numbered own refl (codesOf (tableAt i)) (lensOf (tableAt i)) (ruled-at i h)
 
 row-own : (k : Kind) (mode : ℕ) (h : Record) → Numbered own (row k mode h)
 unfolding row indices index indexFrom

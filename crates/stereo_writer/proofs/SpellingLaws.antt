@@ -18,12 +18,12 @@ use Rattle.bits.specs.Pieces.{Piece}
 use Rattle.bits.proofs.Bools.{true-false}
 use Rattle.bits.proofs.Spelt.{Spelt, told, respelt, give-spelt, bind-spelt, field-spelt, expecting-spelt, pick-spelt, listed-spelt, here-spelt, refuseAt-spelt, leftOver-spelt, inside-spelt, Filled}
 use Rattle.bits.specs.Spelled.{spellEach, spellFill}
-use Rattle.tables.specs.Tables.{codesOf}
-use Rattle.tables.specs.Names.{tableAt}
+use Rattle.tables.specs.Tables.{codesOf, lensOf}
+use Rattle.tables.specs.Names.{phaseFrequency, phaseTime, overallPhaseFrequency, overallPhaseTime}
 use Rattle.tables.specs.Words.{allCodes}
-use Rattle.tables.proofs.Rules.{spelt-at}
+use Rattle.words.proofs.WordLaws.{word-spelt}
 use Rattle.stereo_indices.specs.Kind.{isPhase, bands}
-use Rattle.stereo_indices.specs.Difference.{firstTable, differenceTable, difference, middle, added}
+use Rattle.stereo_indices.specs.Difference.{differenceTable, difference, middle, added}
 use Rattle.bits.specs.Lists.{padded}
 use Rattle.stereo_indices.specs.Indices.{reference, indexFrom, index, indices}
 use Rattle.stereo_indices.specs.Rows.{noRow, recordAfterRows, row, rowsOf, rows}
@@ -66,22 +66,22 @@ entry-back p e b =
     ∙ -ℤ-+ℤ-cancel (pos e) (pos b))
 
 -- the tables of phases have 8 words
-eight : (k : Kind) (mode time : ℕ) → isPhase k ≡ true → length (codesOf (tableAt (differenceTable k mode time))) ≡ 8
-unfolding differenceTable firstTable allCodes
+eight : (k : Kind) (mode time : ℕ) → isPhase k ≡ true → length (codesOf (differenceTable k mode time)) ≡ 8
+unfolding differenceTable allCodes
 eight Iid mode time e = absurd (true-false false e refl)
 eight Icc mode time e = absurd (true-false false e refl)
 eight Ipd mode time e = go (eqb time 1)
   where
-    go : (t : Bool) → length (codesOf (tableAt (18 + pick t 1 0))) ≡ 8
+    go : (t : Bool) → length (codesOf (pick t phaseTime phaseFrequency)) ≡ 8
     go true = refl
     go false = refl
 eight Opd mode time e = go (eqb time 1)
   where
-    go : (t : Bool) → length (codesOf (tableAt (20 + pick t 1 0))) ≡ 8
+    go : (t : Bool) → length (codesOf (pick t overallPhaseTime overallPhaseFrequency)) ≡ 8
     go true = refl
     go false = refl
 
-entry-is : (k : Kind) (mode time : ℕ) (x : ℤ) (e : ℕ) → e < length (codesOf (tableAt (differenceTable k mode time))) → entryTo k mode x (added k mode x e) ≡ e
+entry-is : (k : Kind) (mode time : ℕ) (x : ℤ) (e : ℕ) → e < length (codesOf (differenceTable k mode time)) → entryTo k mode x (added k mode x e) ≡ e
 unfolding entryTo added
 entry-is k mode time x e h = go (isPhase k) refl
   where
@@ -94,7 +94,8 @@ entry-is k mode time x e h = go (isPhase k) refl
 index-spelt : (k : Kind) (mode time : ℕ) (before xs : List ℤ) → Spelt (index k mode time before xs) [] (spellIndex k mode time before xs) Any
 unfolding index indexFrom difference
 index-spelt k mode time before xs =
-    bind-spelt (expecting-spelt 32 _ (spelt-at (differenceTable k mode time))) λ e o.
+    let t = differenceTable k mode time in
+    bind-spelt (expecting-spelt 32 _ (word-spelt (codesOf t) (lensOf t))) λ e o.
     give-spelt (rw (entry-is k mode time (reference time before xs) e (o .0 .0))) tt
 
 row-spelt : (k : Kind) (mode : ℕ) (h : Record) → Spelt (row k mode h) [] (spellRow k mode h) Any

@@ -21,10 +21,11 @@ use Rattle.bits.proofs.Exact.{ReadTo, can, cannot, written-read, read-writable,
 use Rattle.stereo.specs.State.{sound, lost}
 use Rattle.stereo.specs.Payload.{payload}
 use Rattle.stereo.specs.Carried.{carried}
-use Rattle.stereo.specs.Stereo.{restart, from, refusal, taken, readingOf, readBytes}
+use Rattle.stereo.specs.Restart.{restart}
+use Rattle.stereo_reader.specs.Reading.{from, refusal, taken, readingOf, readBytes}
 use Rattle.stereo.specs.declared.State.{State}
 use Rattle.stereo.specs.declared.Contents.{Contents}
-use Rattle.stereo.specs.declared.Reading.{Reading}
+use Rattle.stereo_reader.specs.declared.Reading.{Reading}
 use Rattle.stereo_writer.specs.declared.Written.{Written}
 use Rattle.stereo_writer.specs.Spelling.{spelling}
 use Rattle.stereo_writer.specs.Same.{sameContents}

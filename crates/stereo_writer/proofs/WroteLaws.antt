@@ -15,7 +15,7 @@ use Rattle.stereo_indices.specs.Record.{recordOf}
 use Rattle.stereo_indices.specs.Rows.{recordAfterRows}
 use Rattle.stereo_indices.specs.declared.Record.{Record}
 use Rattle.stereo_indices.specs.declared.Row.{Row}
-use Rattle.stereo_writer.specs.Wrote.{Wrote, Room}
+use Rattle.stereo_writer.specs.InnerWrote.{Wrote, Room}
 
 -- another spelling that is the same
 pub wrote-as : {a : ℕ} {x y : List ℕ} {at m : ℕ} {ps qs : List Piece} → Wrote a x at ps m y → ps ≡ qs → Wrote a x at qs m y

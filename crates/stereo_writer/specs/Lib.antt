@@ -1,4 +1,4 @@
 pub mod Spelling
 pub mod Same
-pub mod Wrote
+pub mod InnerWrote
 pub mod Writing

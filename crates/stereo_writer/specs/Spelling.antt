@@ -8,7 +8,6 @@ use lib.IntN.{ℤ, pos, _+ℤ_, _-ℤ_, natAbs}
 use Rattle.bits.specs.Reader.{pick}
 use Rattle.bits.specs.Pieces.{Piece, piece}
 use Rattle.bits.specs.Spelled.{spellEach}
-use Rattle.tables.specs.Names.{tableAt}
 use Rattle.tables.specs.Tables.{spellWord}
 use Rattle.stereo_indices.specs.Kind.{isPhase, bands}
 use Rattle.stereo_indices.specs.Difference.{differenceTable, middle}
@@ -64,7 +63,7 @@ entryTo k mode x y = pick (isPhase k) ((natAbs y + 8 - natAbs x % 8) % 8) (natAb
 
 -- an index, after those of lower bands
 abbrev pub spellIndex : Kind → ℕ → ℕ → List ℤ → List ℤ → ℤ → List Piece
-spellIndex k mode time before done x = spellWord (tableAt (differenceTable k mode time)) (entryTo k mode (reference time before done) x)
+spellIndex k mode time before done x = spellWord (differenceTable k mode time) (entryTo k mode (reference time before done) x)
 
 unfoldable pub spellRow : Kind → ℕ → Record → Row → List Piece
 spellRow k mode h r = bitField (r .time) 1 ++ spellEach (spellIndex k mode (r .time) (h .indices)) [] (take (bands k mode) (r .indices))

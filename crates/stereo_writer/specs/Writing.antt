@@ -11,7 +11,8 @@ use Rattle.bits.specs.Writable.{writable}
 use Rattle.stereo.specs.State.{sound}
 use Rattle.stereo.specs.Payload.{payload}
 use Rattle.stereo.specs.Carried.{carried}
-use Rattle.stereo.specs.Stereo.{restart, from}
+use Rattle.stereo.specs.Restart.{restart}
+use Rattle.stereo_reader.specs.Reading.{from}
 use Rattle.stereo.specs.declared.State.{State}
 use Rattle.stereo.specs.declared.Contents.{Contents}
 use Rattle.stereo_writer.specs.declared.Written.{Written}

@@ -6,7 +6,7 @@ ghost use Rattle.bits.specs.Reader.{pick};
 ghost use mathlib.Core.Path.{_≡_};
 ghost use Rattle.tables.specs.Tables.{Tables};
 ghost use Rattle.stereo_indices.specs.declared.Kind.the-variants.{Ipd, Opd};
-ghost use Rattle.stereo_writer.specs.Wrote.{Wrote, Room};
+ghost use Rattle.stereo_writer.specs.InnerWrote.{Wrote, Room};
 ghost use Rattle.stereo_writer.specs.Spelling.{bitField, spellRow, spellAllPhases, spellBody, spellPart, spellExtension};
 use crate::fields::put_field;
 use crate::rows::put_row;

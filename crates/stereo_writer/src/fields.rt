@@ -1,7 +1,7 @@
 // Fields of the header and the frame, put into the scratch array.
 ghost use Prim.Native.Nat.{_≤_, min};
 ghost use mathlib.Core.Path.{_≡_};
-ghost use Rattle.stereo_writer.specs.Wrote.{Wrote, Room};
+ghost use Rattle.stereo_writer.specs.InnerWrote.{Wrote, Room};
 ghost use Rattle.stereo_writer.specs.Spelling.{bitField, spellMode, spellFields, spellHeader, countIndex, spellBorders, spellFrame};
 use stereo::Frame;
 use stereo::Header;

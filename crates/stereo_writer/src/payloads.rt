@@ -2,7 +2,7 @@
 ghost use mathlib.Core.List.{_++_};
 ghost use Rattle.tables.specs.Tables.{Tables};
 ghost use Rattle.stereo_indices.specs.declared.Kind.the-variants.{Iid};
-ghost use Rattle.stereo_writer.specs.Wrote.{Wrote, Room};
+ghost use Rattle.stereo_writer.specs.InnerWrote.{Wrote, Room};
 ghost use Rattle.stereo_writer.specs.Spelling.{spellHeader, spellFrame, spellRows, spelling};
 use crate::extensions::put_extension;
 use crate::fields;

@@ -9,7 +9,7 @@ ghost use Rattle.tables.specs.Tables.{Tables, spellWord};
 ghost use Rattle.tables.specs.Names.{tableAt};
 ghost use Rattle.stereo_indices.specs.Kind.{bands};
 ghost use Rattle.stereo_indices.specs.Indices.{reference};
-ghost use Rattle.stereo_writer.specs.Wrote.{Wrote, Room};
+ghost use Rattle.stereo_writer.specs.InnerWrote.{Wrote, Room};
 ghost use Rattle.stereo_writer.specs.Spelling.{entryTo, spellIndex, spellRow, spellRows};
 use crate::fields::put_field;
 use stereo_indices::Kind;

@@ -10,7 +10,7 @@ use lib.Dec.{T, leb, leb→le}
 use lib.ListN.{length, getD, length-take, length-drop}
 use lib.Seq.{getD-take, getD-drop}
 use Rattle.bits.proofs.Bools.{and-left, and-right}
-use Rattle.words.specs.Asked.{Usable}
+use Rattle.words.specs.InnerTable.{Usable}
 use Rattle.tables.specs.Words.{allCodes, allLens}
 use Rattle.tables.specs.Tables.{run}
 

@@ -16,7 +16,7 @@ use Rattle.bits.specs.Reader.{got, refused, pick}
 use Rattle.bits.proofs.BitLaws.{bitsFrom-prefix}
 use Rattle.bits.proofs.Bools.{and-both}
 use Rattle.words.specs.Words.{fits, cutOff, scan}
-use Rattle.words.specs.Comparison.{compared}
+use Rattle.words.specs.InnerComparison.{compared}
 use Rattle.words.specs.declared.Comparison.{Comparison}
 use Rattle.words.specs.declared.Comparison.the-variants.{Fits, Cut, Neither}
 

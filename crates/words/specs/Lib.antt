@@ -1,5 +1,5 @@
 pub mod Words
 pub mod Table
-pub mod Asked
-pub mod Comparison
+pub mod InnerTable
+pub mod InnerComparison
 pub mod Escape

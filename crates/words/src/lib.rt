@@ -4,9 +4,9 @@ ghost use Prim.Native.Nat.{_*_, _≤_, _-_, min};
 ghost use lib.ListN.{length};
 ghost use Rattle.bits.specs.Bits.{bitsFrom};
 ghost use Rattle.bits.specs.Answers.{fieldAnswer};
-ghost use Rattle.words.specs.Comparison.{compared};
+ghost use Rattle.words.specs.InnerComparison.{compared};
 ghost use Rattle.words.specs.Words.{word};
-ghost use Rattle.words.specs.Asked.{Usable};
+ghost use Rattle.words.specs.InnerTable.{Usable};
 use bits::Field;
 
 pub mod escape;

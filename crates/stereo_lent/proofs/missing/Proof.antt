@@ -36,13 +36,13 @@ use denote.Triple.Spec.{Meets, tripleOf}
 use denote.Triple.Table.{entered, cited}
 use denote.Triple.Walked.{says, Stays, stay-ref, walkOf, goes-ref, Walks, ends-at, walked, walk-meets}
 use denote.Triple.Clauses.{ensured, lasts}
-use Rattle.stereo.specs.Stereo.{missing}
+use Rattle.stereo_reader.specs.Reading.{missing}
 use Rattle.stereo.specs.declared.State.{State}
-use Rattle.stereo.specs.declared.Report.{Report}
+use Rattle.stereo_reader.specs.declared.Report.{Report}
 use Rattle.stereo.proofs.State as S
 use Rattle.stereo.proofs.State.Laws as S′
-use Rattle.stereo.proofs.Report as R
-use Rattle.stereo.proofs.Report.Laws as R′
+use Rattle.stereo_reader.proofs.Report as R
+use Rattle.stereo_reader.proofs.Report.Laws as R′
 use Rattle.stereo_reader.proofs.missing as step
 use Rattle.stereo_reader.proofs.missing.Symbol as step-def
 use Rattle.stereo_reader.proofs.missing.Symbol.{name as #stereo-reader·missing}

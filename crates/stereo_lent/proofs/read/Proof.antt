@@ -37,7 +37,7 @@ use denote.Triple.Table.{entered, cited}
 use denote.Triple.Walked.{says, Stays, stay-ref, stay-none, stay-none-slice, walkOf, AllGo, goes-none, goes-none-slice, goes-ref, Walks, ends-at, walked, walk-meets}
 use denote.Triple.Clauses.{ensured, lasts}
 use denote.Exit.{yes}
-use Rattle.stereo.specs.Stereo.{readFrom}
+use Rattle.stereo_reader.specs.Reading.{readFrom}
 use Rattle.stereo.specs.declared.State.{State}
 use Rattle.stereo.proofs.State as S
 use Rattle.stereo.proofs.State.Laws as S′

@@ -1,6 +1,6 @@
 use borrow.Author.Tests.{not-true, not-false}
 use mathlib.Core.Path.{sym, _∙_}
-use Rattle.stereo.specs.Stereo.{missing}
+use Rattle.stereo_reader.specs.Reading.{missing}
 use borrow.Author.Needs.{needs}
 use Rattle.stereo_reader.proofs.missing.Statement.{statement}
 use Rattle.stereo_reader.proofs.missing.Tie as tie

@@ -1,7 +1,7 @@
 -- Each `return` shows the tests of `readFrom` up to the one that failed; the part of the buffer is the range.
 use mathlib.Core.Path.{sym, _∙_}
 use borrow.Author.Tests.{le-leb, lt-leb, not-true, not-false}
-use Rattle.stereo.specs.Stereo.{readFrom}
+use Rattle.stereo_reader.specs.Reading.{readFrom}
 use borrow.Author.Needs.{needs}
 use Rattle.stereo_reader.proofs.read.Statement.{statement}
 use Rattle.stereo_reader.proofs.read.Tie as tie

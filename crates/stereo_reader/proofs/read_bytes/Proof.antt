@@ -1,7 +1,7 @@
 -- No payload uses more than 8,192 bits, so looking at 1,025 bytes answers what looking at all of them would (`whole-near`).
 use Rattle.bits.proofs.Taken.{ended-is}
 use mathlib.Core.Path.{_∙_}
-use Rattle.stereo.proofs.BytesLaws.{bytes-left, bytes-got, bytes-refused}
+use Rattle.stereo_reader.proofs.BytesLaws.{bytes-left, bytes-got, bytes-refused}
 use borrow.Author.Needs.{needs}
 use Rattle.stereo_reader.proofs.read_bytes.Statement.{statement}
 use Rattle.stereo_reader.proofs.read_bytes.Tie as tie

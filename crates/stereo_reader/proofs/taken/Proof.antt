@@ -1,7 +1,7 @@
 -- 35 where contents are not accepted; else the state after them is carried from the state that they were read from.
 use borrow.Author.Tests.{not-true, not-false}
 use mathlib.Core.Path.{sym, _∙_}
-use Rattle.stereo.specs.Stereo.{taken}
+use Rattle.stereo_reader.specs.Reading.{taken}
 use borrow.Author.Needs.{needs}
 use Rattle.stereo_reader.proofs.taken.Statement.{statement}
 use Rattle.stereo_reader.proofs.taken.Tie as tie

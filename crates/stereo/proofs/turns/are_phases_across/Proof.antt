@@ -1,5 +1,5 @@
 use borrow.Author.Tests.{eq-eqb, ne-eqb}
-use Rattle.stereo.specs.Stereo.{phasesAcross}
+use Rattle.stereo.specs.Restart.{phasesAcross}
 use borrow.Author.Needs.{needs}
 use Rattle.stereo.proofs.turns.are_phases_across.Statement.{statement}
 use Rattle.stereo.proofs.turns.are_phases_across.Tie as tie

@@ -1,7 +1,7 @@
 -- Each `return` shows the tests of `restart` up to the one that failed.
 use mathlib.Core.Path.{sym, _∙_}
 use borrow.Author.Tests.{eq-eqb, ne-eqb, le-leb, lt-leb, not-true, not-false}
-use Rattle.stereo.specs.Stereo.{restart}
+use Rattle.stereo.specs.Restart.{restart}
 use borrow.Author.Needs.{needs}
 use Rattle.stereo.proofs.turns.is_restart.Statement.{statement}
 use Rattle.stereo.proofs.turns.is_restart.Tie as tie

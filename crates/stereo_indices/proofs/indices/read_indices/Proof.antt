@@ -18,7 +18,7 @@ use Rattle.bits.proofs.LoopLaws.{counted-start, counted-more, counted-stop, cou
 use Rattle.bits.proofs.Signed.{fits, thru}
 use Rattle.stereo_indices.specs.Record.{zeros}
 use Rattle.stereo_indices.specs.Kind.{inRange}
-use Rattle.stereo_indices.specs.Answers.{indexAnswer}
+use Rattle.stereo_indices.specs.InnerAnswers.{indexAnswer}
 use Rattle.stereo_indices.specs.Indices.{reference, indexFrom, index}
 use Rattle.stereo_indices.proofs.KindLaws.{in-range-abs, pick-fits}
 use Rattle.stereo_indices.proofs.IndexLaws.{index-ranged, indices-got, indices-refused}

@@ -1,6 +1,6 @@
 use borrow.Author.Tests.{eq-eqb, ne-eqb}
 use native.Mathlib.Omega.{arith}
-use Rattle.stereo_indices.specs.Difference.{differenceTable}
+use Rattle.stereo_indices.specs.InnerTables.{differenceNumber}
 use borrow.Author.Needs.{needs}
 use Rattle.stereo_indices.proofs.steps.difference_table.Statement.{statement}
 use Rattle.stereo_indices.proofs.steps.difference_table.Tie as tie
@@ -12,11 +12,11 @@ add-result : tie.Need-add-result
 add-result c = search needs
 
 returns : tie.Need-returns
-unfolding differenceTable
+unfolding differenceNumber
 returns c = (rw (c .before .first-table .ensures .0, eq-eqb _ _ (c .if1 .taken)), omega arith, omega arith)
 
 returns-2 : tie.Need-returns-2
-unfolding differenceTable
+unfolding differenceNumber
 returns-2 c = (rw (c .before .first-table .ensures .0, ne-eqb _ _ (c .if1 .left)) (omega arith), omega arith, omega arith)
 
 pub difference-table-spec : {M : Type 1} → statement M

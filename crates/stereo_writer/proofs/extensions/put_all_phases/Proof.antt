@@ -1,6 +1,6 @@
 use Rattle.stereo_writer.proofs.WroteLaws.{wrote-none, wrote-nothing, wrote-then, wrote-as, wrote-most, wrote-length, room-after, each-more, taken-whole, record-more}
 use Rattle.stereo_writer.specs.Spelling.{spellPhases, spellAllPhases}
-use Rattle.stereo_writer.specs.Wrote.{Wrote}
+use Rattle.stereo_writer.specs.InnerWrote.{Wrote}
 use Rattle.stereo.specs.Extension.{ipds, opds}
 use Rattle.stereo_indices.specs.Rows.{recordAfterRows}
 use Rattle.bits.specs.Spelled.{spellEach}

@@ -1,6 +1,6 @@
 use Rattle.stereo_writer.proofs.WroteLaws.{wrote-none, wrote-nothing, wrote-then, wrote-as, wrote-most, wrote-length, room-after, each-more, taken-whole}
 use Rattle.stereo_writer.specs.Spelling.{spellBorder, spellBorders}
-use Rattle.stereo_writer.specs.Wrote.{Wrote}
+use Rattle.stereo_writer.specs.InnerWrote.{Wrote}
 use Rattle.bits.specs.Spelled.{spellEach}
 use lib.ListN.{take, length}
 use borrow.Author.Tests.{eq-eqb, ne-eqb}

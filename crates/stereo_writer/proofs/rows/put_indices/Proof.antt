@@ -1,11 +1,12 @@
 use Rattle.stereo_writer.proofs.WroteLaws.{wrote-length, wrote-none, wrote-then, wrote-as, wrote-most, room-after, each-more}
 use Rattle.stereo_writer.specs.Spelling.{spellIndex}
-use Rattle.stereo_writer.specs.Wrote.{Wrote}
+use Rattle.stereo_writer.specs.InnerWrote.{Wrote}
 use Rattle.stereo_indices.specs.Kind.{bands}
 use Rattle.bits.specs.Spelled.{spellEach}
 use lib.IntN.{pos}
 use lib.ListN.{take, length}
 use borrow.Author.Needs.{needs}
+use Rattle.stereo_indices.proofs.KindLaws.{table-is}
 use native.Mathlib.Omega.{arith}
 use mathlib.Core.List.{[]}
 use mathlib.Core.Path.{_≡_}
@@ -51,7 +52,7 @@ loop-again c = let l = c .before .before .before .before .before .before in
     let t = l .before .difference-table .ensures .0 in
     let w = c .before .before .put-word .ensures in
     let e = c .before .before .before .before .entry-at .ensures in
-    (omega arith, n, wrote-as (wrote-then (l .loop .inv .2) w (omega arith)) (rw (t, e) (each-more (spellIndex (a .kind) (a .mode) (a .time) (a .before)) (pos 0) (a .xs) (l .loop .i) (omega arith))))
+    (omega arith, n, wrote-as (wrote-then (l .loop .inv .2) w (omega arith)) (rw (t, table-is (a .kind) (a .mode) (a .time), e) (each-more (spellIndex (a .kind) (a .mode) (a .time) (a .before)) (pos 0) (a .xs) (l .loop .i) (omega arith))))
 
 same-length : tie.Need-same-length Inv-loop μ-loop
 same-length c = wrote-length (c .before .loop .inv .2)

@@ -1,4 +1,4 @@
--- What a word is to a window of bits.
+-- For contracts of inner functions only: what a word is to a window of bits.
 use Prim.Native.Nat.{ℕ, _-_, _/_, _^_}
 use lib.Dec.{leb, eqb}
 use Rattle.bits.specs.Reader.{pick}

@@ -1,4 +1,4 @@
--- What the code's answers mean.
+-- For contracts of inner functions only: what the code's answers mean.
 use lib.Dec.{eqb}
 use Rattle.bits.specs.Reader.{pick}
 use Rattle.bits.specs.declared.Ended.{Ended}

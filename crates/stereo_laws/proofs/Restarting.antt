@@ -3,7 +3,7 @@ use Prim.Native.Nat.{_≤_}
 use mathlib.Core.Path.{_≡_}
 use mathlib.Core.Bool.{true}
 use lib.Dec.{eqb}
-use Rattle.stereo.specs.Stereo.{across, phasesAcross}
+use Rattle.stereo.specs.Restart.{across, phasesAcross}
 use Rattle.stereo.specs.declared.Contents.{Contents}
 
 pub record Restart (c : Contents) : Type 0 where

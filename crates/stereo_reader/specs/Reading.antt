@@ -1,36 +1,18 @@
--- The stereo reader: a payload in step or out of step, and a payload reported missing.
+-- What the stereo reader answers: a payload in step or out of step, and a payload reported missing.
 use Prim.Native.Nat.{ℕ}
 use mathlib.Core.List.{List}
-use mathlib.Core.Bool.{Bool, not, _&&_, _||_}
-use lib.Dec.{eqb, leb}
-use lib.ListN.{length, getD}
+use mathlib.Core.Bool.{_||_}
+use lib.ListN.{length}
 use Rattle.bits.specs.Reader.{Answer, got, refused, pick}
 use Rattle.bits.specs.Payload.{inBuffer, range, whole}
-use Rattle.stereo_indices.specs.Rows.{noRow}
-use Rattle.stereo_indices.specs.declared.Row.{Row}
 use Rattle.stereo.specs.State.{fresh, sound, lost}
-use Rattle.stereo.specs.Extension.{noPhases}
 use Rattle.stereo.specs.Payload.{noContents, payload}
 use Rattle.stereo.specs.Carried.{carried}
 use Rattle.stereo.specs.declared.State.{State}
-use Rattle.stereo.specs.declared.Body.{Body}
 use Rattle.stereo.specs.declared.Contents.{Contents}
-use Rattle.stereo.specs.declared.Reading.{Reading}
-use Rattle.stereo.specs.declared.Report.{Report}
-
--- the first row of a kind is across frequency
-abbrev pub across : List Row → Bool
-across rs = eqb (getD rs 0 noRow .time) 0
-
--- and so are the first phases, where there are any
-unfoldable pub phasesAcross : Body → Bool
-phasesAcross b = not (eqb (b .phase) 1) || (eqb (getD (b .phases) 0 noPhases .ipd .time) 0 && eqb (getD (b .phases) 0 noPhases .opd .time) 0)
-
--- a header with IID and ICC on, at least one envelope, and the first of each kind that is there across frequency
-unfoldable pub restart : Contents → Bool
-restart c =
-    eqb (c .header .there) 1 && eqb (c .header .iid) 1 && eqb (c .header .icc) 1 && leb 1 (c .frame .envelopes)
-    && across (c .iid) && across (c .icc) && phasesAcross (c .extension .part .body)
+use Rattle.stereo_reader.specs.declared.Reading.{Reading}
+use Rattle.stereo_reader.specs.declared.Report.{Report}
+use Rattle.stereo.specs.Restart.{restart}
 
 -- the state that a payload is read from: out of step the fresh one
 abbrev pub from : State → State

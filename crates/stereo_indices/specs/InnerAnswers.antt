@@ -1,4 +1,4 @@
--- What the code's answers mean.
+-- For contracts of inner functions only: what the code's answers mean.
 use lib.IntN.{ℤ}
 use Rattle.bits.specs.Reader.{Answer, got, refused}
 use Rattle.stereo_indices.specs.declared.Index.{Index}

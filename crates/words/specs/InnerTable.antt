@@ -1,4 +1,4 @@
--- What the code asks of a table: as many lengths as words, few of them, and none above 20.
+-- For contracts of inner functions only: what the code asks of a table: as many lengths as words, few of them, and none above 20.
 use Prim.Native.Nat.{ℕ, _≤_, _<_}
 use mathlib.Core.Path.{_≡_}
 use mathlib.Core.List.{List}

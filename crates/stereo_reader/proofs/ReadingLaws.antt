@@ -1,21 +1,19 @@
--- Laws of the stereo reader: no byte outside the range counts; a cut is refused with 10, in step and out of step; what a refusal and a report leave
--- is as sound as the state was.
+-- Laws of the stereo reader: no byte outside the range counts; a cut is refused with 10, in step and out of step; a report leaves a sound state.
 -- Assumes nothing.
 use Prim.Native.Nat.{ℕ, _*_, _<_}
-use mathlib.Core.Path.{_≡_, refl, _∙_}
+use mathlib.Core.Path.{_≡_, _∙_}
 use mathlib.Core.Bool.{true}
 use mathlib.Core.List.{List}
 use lib.ListN.{length, take}
 use Rattle.bits.specs.Reader.{got}
 use Rattle.bits.specs.Payload.{inBuffer, range, whole}
-use Rattle.stereo_indices.specs.Record.{zeros, none, soundIndex, soundFrom, soundRecord}
-use Rattle.stereo_indices.specs.Kind.{within}
-use Rattle.stereo.specs.State.{freshSetup, fresh, soundSetup, sound, lost}
+use Rattle.stereo.specs.State.{sound, lost}
 use Rattle.stereo.specs.Payload.{payload}
-use Rattle.stereo.specs.Stereo.{from, refusal, readBytes, readFrom, missing}
+use Rattle.stereo_reader.specs.Reading.{from, refusal, readBytes, readFrom, missing}
 use Rattle.stereo.specs.declared.State.{State}
 use Rattle.stereo.specs.declared.Contents.{Contents}
 use Rattle.stereo.proofs.PayloadLaws.{payload-cut}
+use Rattle.stereo.proofs.StateLaws.{lost-sound}
 
 -- two ranges of the same bytes are read alike, whatever stands around them
 pub outside-counts-not : (st : State) (b b′ : List ℕ) (start end start′ end′ : ℕ) → inBuffer start end (length b) ≡ true → inBuffer start′ end′ (length b′) ≡ true
@@ -28,15 +26,6 @@ pub read-cut : (st : State) (s : List ℕ) (next : ℕ) (c : Contents) (k : ℕ)
     → readBytes st (take k s) ≡ refusal 10 (lost st)
 unfolding readBytes
 read-cut st s next c k e h = rw (payload-cut (from st) s next c k e h .1)
-
--- the fresh state is sound, and so is what is lost of a sound one
-pub fresh-sound : sound fresh ≡ true
-unfolding sound fresh freshSetup soundSetup soundRecord soundFrom soundIndex none zeros within
-fresh-sound = refl
-
-pub lost-sound : (st : State) → sound (lost st) ≡ sound st
-unfolding sound
-lost-sound st = refl
 
 -- a report of a sound state leaves a sound state
 pub missing-sound : (st : State) → sound st ≡ true → sound (missing st .state) ≡ true

@@ -7,12 +7,12 @@ use borrow.Author.Tests.{le-leb, lt-leb}
 use lib.ListN.{length}
 use Rattle.bits.specs.Reader.{got, refused}
 use Rattle.bits.specs.Payload.{ended}
 use Rattle.stereo.specs.State.{lost}
 use Rattle.stereo.specs.Payload.{payload}
-use Rattle.stereo.specs.Stereo.{from, refusal, taken, readBytes}
+use Rattle.stereo_reader.specs.Reading.{from, refusal, taken, readBytes}
 use Rattle.stereo.specs.declared.State.{State}
 use Rattle.stereo.specs.declared.Contents.{Contents}
 use Rattle.stereo.proofs.PayloadNear.{whole-near}
 
 module _ (st : State) (s : List ℕ) where
   pub bytes-left : (c : Contents) (next : ℕ) → payload (from st) s 0 (8 * min (length s) 1025) ≡ got c next → 7 < 8 * min (length s) 1025 - next
