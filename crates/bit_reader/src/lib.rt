@@ -63,7 +63,8 @@ pub fn hold<'a>(src: &'a [u8]) -> BitReader<'a>
 
 // The next field of n bits is taken, and the reader moved past it; a refusal leaves it where it was.
 pub fn take<'s, 'a>(r: &'s mut BitReader<'a>, n: usize) -> Took
-    ensures { λ t. ⌜ (t ≡ tookAt (now (now (r .entry) .src)) (now (r .entry) .at) n) × (now (r .exit) .src ≡ now (r .entry) .src) × (now (r .exit) .at ≡ t .next) ⌝ }
+    ensures { λ t. ⌜ (t ≡ tookAt (now (now (r .entry) .src)) (now (r .entry) .at) n)
+        × (now (r .exit) .src ≡ now (r .entry) .src) × (now (r .exit) .at ≡ t .next) ⌝ }
 {
     let c = *r;
     let t = took_at(c.src, c.at, n);

@@ -19,7 +19,7 @@ use Rattle.bits.proofs.InsideLaws.{Filling, refusing-filling, then-filling, fil
 use Rattle.bits.proofs.PayloadLaws.{whole-cut}
 use Rattle.stereo_indices.proofs.ReadingLaws.{row-lawful, rows-lawful}
 use Rattle.stereo_indices.specs.declared.Record.{Record}
-use Rattle.stereo.specs.Header.{mode, headerFields, header}
+use Rattle.stereo.specs.Header.{mode, switch, headerFields, header}
 use Rattle.stereo.specs.Frame.{bordersOf, borders, frame}
 use Rattle.stereo.specs.Extension.{phasesIn, phasesOf, phases, phaseFlag, v0, another, part, announced, escCount, extensionSent, extension}
 use Rattle.stereo.specs.Payload.{envelopes, payload}
@@ -35,9 +35,13 @@ mode-lawful : (on : ℕ) → Lawful (mode on)
 unfolding mode
 mode-lawful on = search lawful depth 8
 
+switch-lawful : Lawful switch
+unfolding switch
+switch-lawful = search (lawful, mode-lawful) depth 8
+
 fields-lawful : Lawful headerFields
 unfolding headerFields
-fields-lawful = search (lawful, mode-lawful) depth 16
+fields-lawful = search (lawful, switch-lawful) depth 16
 
 pub header-lawful : Lawful header
 unfolding header

@@ -24,7 +24,7 @@ use Rattle.stereo_indices.specs.declared.Kind.the-variants.{Iid, Icc}
 use Rattle.stereo_indices.specs.declared.Record.{Record}
 use Rattle.stereo_indices.proofs.KindLaws.{bands-le, of-table}
 use Rattle.tables.specs.Tables.{wordOf}
-use Rattle.stereo.specs.Header.{mode, headerFields, header, setupAfter}
+use Rattle.stereo.specs.Header.{mode, switch, headerFields, header, setupAfter}
 use Rattle.stereo.specs.Frame.{envelopeCount, bordersOf, borders, frame}
 use Rattle.stereo.specs.Extension.{part, announced, escCount, extensionSent, extension}
 use Rattle.stereo.specs.Payload.{envelopes, payload}
@@ -56,14 +56,16 @@ mode-near : (on : ℕ) → Near 3 (mode on)
 unfolding mode
 mode-near on = pick-near (eqb on 1) (expecting-near 13 _ 3 _ (field-near 3)) (give-near 3 0)
 
+switch-near : Near 4 switch
+unfolding switch
+switch-near = bind-near 1 3 _ _ (field-near 1) λ on. bind-near 3 0 _ _ (mode-near on) λ m. give-near 0 _
+
 header-near : Near 10 header
 unfolding header headerFields
 header-near =
     bind-near 1 9 _ _ (field-near 1) λ there.
     pick-near (eqb there 1)
-    (bind-near 1 8 _ _ (field-near 1) λ iid. bind-near 3 5 _ _ (mode-near iid) λ iidmode.
-    bind-near 1 4 _ _ (field-near 1) λ icc. bind-near 3 1 _ _ (mode-near icc) λ iccmode.
-    bind-near 1 0 _ _ (field-near 1) λ ext. give-near 0 _)
+    (bind-near 4 5 _ _ switch-near λ iid. bind-near 4 1 _ _ switch-near λ icc. bind-near 1 0 _ _ (field-near 1) λ ext. give-near 0 _)
     (give-near 9 _)
 
 count-le : (class i : ℕ) → i < 4 → envelopeCount class i ≤ 4

@@ -6,6 +6,7 @@ use Rattle.bits.specs.Reader.{Reader, give, pick, expecting, _>>=_}
 use Rattle.bits.specs.Field.{field}
 use Rattle.stereo.specs.declared.Setup.{Setup}
 use Rattle.stereo.specs.declared.Header.{Header}
+use Rattle.stereo.specs.declared.Switch.{Switch}
 
 -- no header: nothing is sent
 unfoldable pub noHeader : Header
@@ -15,14 +16,20 @@ noHeader = record { there = 0; iid = 0; iidmode = 0; icc = 0; iccmode = 0; ext =
 unfoldable pub mode : ℕ → Reader ℕ
 mode on = pick (eqb on 1) (expecting 13 (λ m. leb m 5) (field 3)) (give 0)
 
+-- an enable bit and its mode
+unfoldable pub switch : Reader Switch
+switch = do
+  on ← field 1
+  m ← mode on
+  give (record { on = on; mode = m })
+
+-- IID, ICC, and the enable bit of the extension
 unfoldable pub headerFields : Reader Header
 headerFields = do
-  iid ← field 1
-  iidmode ← mode iid
-  icc ← field 1
-  iccmode ← mode icc
+  iid ← switch
+  icc ← switch
   ext ← field 1
-  give (record { there = 1; iid = iid; iidmode = iidmode; icc = icc; iccmode = iccmode; ext = ext })
+  give (record { there = 1; iid = iid .on; iidmode = iid .mode; icc = icc .on; iccmode = icc .mode; ext = ext })
 
 unfoldable pub header : Reader Header
 header = do

@@ -163,21 +163,21 @@ fn read_phase_flag(s: &[u8], at: usize, end: usize, mode: u32) -> Field
     requires { ⌜ end ≤ 8 * length (now s) ⌝ }
     ensures { λ r. ⌜ fieldAnswer r ≡ phaseFlag mode (now (s .entry)) at end ⌝ }
 {
-    let f1 = bits::read_field(s, at, end, 2);
-    let Field::Got(id, p1) = f1 else {
-        return f1;
+    let id_field = bits::read_field(s, at, end, 2);
+    let Field::Got(id, after_id) = id_field else {
+        return id_field;
     };
     if id != 0 {
         return Field::Refused(13, at);
     }
-    let f2 = bits::read_field(s, p1, end, 1);
-    let Field::Got(on, _) = f2 else {
-        return f2;
+    let flag_field = bits::read_field(s, after_id, end, 1);
+    let Field::Got(on, _) = flag_field else {
+        return flag_field;
     };
     if has_mode(mode, on) {
-        return f2;
+        return flag_field;
     }
-    Field::Refused(34, p1)
+    Field::Refused(34, after_id)
 }
 
 // No v0.
@@ -210,18 +210,18 @@ fn read_v0(
     requires { ⌜ (end ≤ 8 * length (now s)) × Tables (now codes) (now lens) × (n ≤ 4) ⌝ }
     ensures { λ r. ⌜ endedAnswer (r .ended) (r .body) ≡ v0 mode (records .ipd) (records .opd) n (now (s .entry)) at end ⌝ }
 {
-    let f1 = read_phase_flag(s, at, end, mode);
-    let Field::Got(phase, p1) = f1 else {
-        return refused_body(bits::passed_on(f1));
+    let flag_field = read_phase_flag(s, at, end, mode);
+    let Field::Got(phase, after_flag) = flag_field else {
+        return refused_body(bits::passed_on(flag_field));
     };
-    let read = read_all_phases(s, p1, end, phase, mode, records, n, codes, lens);
-    let e2 = read.ended;
+    let read = read_all_phases(s, after_flag, end, phase, mode, records, n, codes, lens);
+    let phases_ended = read.ended;
     let phases = read.phases;
-    let Ended::At(p2) = e2 else {
-        return refused_body(e2);
+    let Ended::At(after_phases) = phases_ended else {
+        return refused_body(phases_ended);
     };
-    let f3 = bits::read_unset_bit(s, p2, end, 13);
-    let ended = bits::passed_on(f3);
+    let reserved_field = bits::read_unset_bit(s, after_phases, end, 13);
+    let ended = bits::passed_on(reserved_field);
     let body = Body { phase, phases };
     ReadBody { ended, body }
 }
@@ -376,16 +376,16 @@ fn read_extension_sent(
     requires { ⌜ (end ≤ 8 * length (now s)) × Tables (now codes) (now lens) × (n ≤ 4) ⌝ }
     ensures { λ r. ⌜ endedAnswer (r .ended) (r .extension) ≡ extensionSent mode (records .ipd) (records .opd) n (now (s .entry)) at end ⌝ }
 {
-    let f1 = bits::read_field(s, at, end, 4);
-    let Field::Got(size, p1) = f1 else {
-        return refused_extension(f1);
+    let size_field = bits::read_field(s, at, end, 4);
+    let Field::Got(size, after_size) = size_field else {
+        return refused_extension(size_field);
     };
-    let f2 = read_esc(s, p1, end, size);
-    let Field::Got(esc, p2) = f2 else {
-        return refused_extension(f2);
+    let esc_field = read_esc(s, after_size, end, size);
+    let Field::Got(esc, after_esc) = esc_field else {
+        return refused_extension(esc_field);
     };
     let total = (size + esc) as usize;
-    let read = read_announced(s, p2, end, total, mode, records, n, codes, lens);
+    let read = read_announced(s, after_esc, end, total, mode, records, n, codes, lens);
     let ended = read.ended;
     let part = read.part;
     let extension = Extension {

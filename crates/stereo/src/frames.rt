@@ -95,16 +95,16 @@ pub fn read_frame(s: &[u8], at: usize, end: usize) -> ReadFrame
     requires { ⌜ end ≤ 8 * length (now s) ⌝ }
     ensures { λ r. ⌜ (endedAnswer (r .ended) (r .frame) ≡ frame (now (s .entry)) at end) × (r .frame .envelopes ≤ 4) ⌝ }
 {
-    let f1 = bits::read_field(s, at, end, 1);
-    let Field::Got(class, p1) = f1 else {
-        return refused_frame(f1);
+    let class_field = bits::read_field(s, at, end, 1);
+    let Field::Got(class, after_class) = class_field else {
+        return refused_frame(class_field);
     };
-    let f2 = bits::read_field(s, p1, end, 2);
-    let Field::Got(i, p2) = f2 else {
-        return refused_frame(f2);
+    let index_field = bits::read_field(s, after_class, end, 2);
+    let Field::Got(index, after_index) = index_field else {
+        return refused_frame(index_field);
     };
-    let envelopes = envelope_count(class, i);
-    let read = read_borders(s, p2, end, class, envelopes);
+    let envelopes = envelope_count(class, index);
+    let read = read_borders(s, after_index, end, class, envelopes);
     let ended = read.ended;
     let borders = read.borders;
     let frame = Frame {

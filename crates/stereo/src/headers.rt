@@ -3,10 +3,12 @@ ghost use mathlib.Core.Path.{_≡_};
 ghost use Prim.Native.Nat.{_*_, _≤_};
 ghost use lib.ListN.{length};
 ghost use Rattle.bits.specs.Answers.{fieldAnswer, endedAnswer, passedOn};
-ghost use Rattle.stereo.specs.Header.{noHeader, mode, headerFields, header, flagAfter, modeAfter, setupAfter};
+ghost use Rattle.stereo.specs.Header.{noHeader, mode, switch, headerFields, header, flagAfter, modeAfter, setupAfter};
 use crate::Header;
 use crate::ReadHeader;
+use crate::ReadSwitch;
 use crate::Setup;
+use crate::Switch;
 use bits::Ended;
 use bits::Field;
 
@@ -43,11 +45,37 @@ fn read_mode(s: &[u8], at: usize, end: usize, on: u32) -> Field
     }
 }
 
-// A header that is refused, by the field that is.
-fn refused_header(f: Field) -> ReadHeader
+// An enable bit and its mode that are refused, by the field that is.
+fn refused_switch(f: Field) -> ReadSwitch
     ensures { λ r. ⌜ r .ended ≡ passedOn f ⌝ }
 {
     let ended = bits::passed_on(f);
+    let switch = Switch { on: 0, mode: 0 };
+    ReadSwitch { ended, switch }
+}
+
+// An enable bit and its mode.
+fn read_switch(s: &[u8], at: usize, end: usize) -> ReadSwitch
+    requires { ⌜ end ≤ 8 * length (now s) ⌝ }
+    ensures { λ r. ⌜ endedAnswer (r .ended) (r .switch) ≡ switch (now (s .entry)) at end ⌝ }
+{
+    let flag = bits::read_field(s, at, end, 1);
+    let Field::Got(on, after_flag) = flag else {
+        return refused_switch(flag);
+    };
+    let sent = read_mode(s, after_flag, end, on);
+    let Field::Got(mode, after_mode) = sent else {
+        return refused_switch(sent);
+    };
+    let ended = Ended::At(after_mode);
+    let switch = Switch { on, mode };
+    ReadSwitch { ended, switch }
+}
+
+// A header that is refused, by how its reading ended.
+fn refused_header(ended: Ended) -> ReadHeader
+    ensures { λ r. ⌜ r .ended ≡ ended ⌝ }
+{
     let header = no_header();
     ReadHeader { ended, header }
 }
@@ -57,33 +85,29 @@ fn read_header_fields(s: &[u8], at: usize, end: usize) -> ReadHeader
     requires { ⌜ end ≤ 8 * length (now s) ⌝ }
     ensures { λ r. ⌜ endedAnswer (r .ended) (r .header) ≡ headerFields (now (s .entry)) at end ⌝ }
 {
-    let f1 = bits::read_field(s, at, end, 1);
-    let Field::Got(iid, p1) = f1 else {
-        return refused_header(f1);
+    let level = read_switch(s, at, end);
+    let iid = level.switch;
+    let level_ended = level.ended;
+    let Ended::At(after_iid) = level_ended else {
+        return refused_header(level_ended);
     };
-    let f2 = read_mode(s, p1, end, iid);
-    let Field::Got(iidmode, p2) = f2 else {
-        return refused_header(f2);
+    let coherence = read_switch(s, after_iid, end);
+    let icc = coherence.switch;
+    let coherence_ended = coherence.ended;
+    let Ended::At(after_icc) = coherence_ended else {
+        return refused_header(coherence_ended);
     };
-    let f3 = bits::read_field(s, p2, end, 1);
-    let Field::Got(icc, p3) = f3 else {
-        return refused_header(f3);
+    let flag = bits::read_field(s, after_icc, end, 1);
+    let Field::Got(ext, after_ext) = flag else {
+        return refused_header(bits::passed_on(flag));
     };
-    let f4 = read_mode(s, p3, end, icc);
-    let Field::Got(iccmode, p4) = f4 else {
-        return refused_header(f4);
-    };
-    let f5 = bits::read_field(s, p4, end, 1);
-    let Field::Got(ext, p5) = f5 else {
-        return refused_header(f5);
-    };
-    let ended = Ended::At(p5);
+    let ended = Ended::At(after_ext);
     let header = Header {
         there: 1,
-        iid,
-        iidmode,
-        icc,
-        iccmode,
+        iid: iid.on,
+        iidmode: iid.mode,
+        icc: icc.on,
+        iccmode: icc.mode,
         ext,
     };
     ReadHeader { ended, header }
@@ -96,7 +120,7 @@ pub fn read_header(s: &[u8], at: usize, end: usize) -> ReadHeader
 {
     let f = bits::read_field(s, at, end, 1);
     let Field::Got(there, next) = f else {
-        return refused_header(f);
+        return refused_header(bits::passed_on(f));
     };
     if there == 1 {
         return read_header_fields(s, next, end);

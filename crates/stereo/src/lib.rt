@@ -29,6 +29,12 @@ pub struct State {
     pub instep: bool,
 }
 
+// An enable bit and the mode after it, 0 where it is not sent.
+pub struct Switch {
+    pub on: u32,
+    pub mode: u32,
+}
+
 // The header's fields, 0 where they are not sent.
 pub struct Header {
     pub there: u32,
@@ -86,6 +92,12 @@ pub struct Contents {
     pub iid: [Row; 4],
     pub icc: [Row; 4],
     pub extension: Extension,
+}
+
+// How the reading of an enable bit and its mode ends, and the two.
+pub struct ReadSwitch {
+    pub ended: Ended,
+    pub switch: Switch,
 }
 
 // How the reading of a header ends, and the header.

@@ -135,18 +135,18 @@ fn read_envelopes(
 {
     let n = frame.envelopes;
     let levels = read_levels(s, at, end, state, setup, n, codes, lens);
-    let e1 = levels.ended;
+    let levels_ended = levels.ended;
     let iid = levels.rows;
-    let Ended::At(p1) = e1 else {
-        return refused_contents(e1);
+    let Ended::At(after_levels) = levels_ended else {
+        return refused_contents(levels_ended);
     };
-    let coherences = read_coherences(s, p1, end, state, setup, n, codes, lens);
-    let e2 = coherences.ended;
+    let coherences = read_coherences(s, after_levels, end, state, setup, n, codes, lens);
+    let coherences_ended = coherences.ended;
     let icc = coherences.rows;
-    let Ended::At(p2) = e2 else {
-        return refused_contents(e2);
+    let Ended::At(after_coherences) = coherences_ended else {
+        return refused_contents(coherences_ended);
     };
-    let read = read_rest(s, p2, end, state, setup, n, codes, lens);
+    let read = read_rest(s, after_coherences, end, state, setup, n, codes, lens);
     let ended = read.ended;
     let extension = read.extension;
     let contents = Contents {
@@ -165,18 +165,28 @@ pub fn read_payload(s: &[u8], end: usize, state: State, codes: &[u32], lens: &[u
     ensures { λ r. ⌜ endedAnswer (r .ended) (r .contents) ≡ payload state (now (s .entry)) 0 end ⌝ }
 {
     let headed = headers::read_header(s, 0, end);
-    let e1 = headed.ended;
+    let header_ended = headed.ended;
     let header = headed.header;
-    let Ended::At(p1) = e1 else {
-        return refused_contents(e1);
+    let Ended::At(after_header) = header_ended else {
+        return refused_contents(header_ended);
     };
-    let framed = frames::read_frame(s, p1, end);
-    let e2 = framed.ended;
+    let framed = frames::read_frame(s, after_header, end);
+    let frame_ended = framed.ended;
     let frame = framed.frame;
-    let Ended::At(p2) = e2 else {
-        return refused_contents(e2);
+    let Ended::At(after_frame) = frame_ended else {
+        return refused_contents(frame_ended);
     };
     let before = state.setup;
     let setup = headers::setup_after(before, header);
-    read_envelopes(s, p2, end, state, header, setup, frame, codes, lens)
+    read_envelopes(
+        s,
+        after_frame,
+        end,
+        state,
+        header,
+        setup,
+        frame,
+        codes,
+        lens,
+    )
 }

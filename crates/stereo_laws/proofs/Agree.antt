@@ -29,18 +29,21 @@ bind-agree {r = r} {k = k} g p h = record {
 }
 
 -- where the first reading is the same
-pub then-agree : {A B : Type 0} (r : Reader A) {k l : A → Reader B} {Q : B → Type 0} → ((a : A) → Agree (k a) (l a) Q) → Agree (r >>= k) (r >>= l) Q
+pub then-agree : {A B : Type 0} (r : Reader A) {k l : A → Reader B} {Q : B → Type 0} → ((a : A) → Agree (k a) (l a) Q)
+    → Agree (r >>= k) (r >>= l) Q
 then-agree r {k = k} h = record {
   law = λ s at end next b e z.
       let w = split (r s at end) k s end next b e in
       rw (w .2) (h (w .0) .law s (w .1) end next b (w .3) z);
 }
 
-pub pick-agree : {A : Type 0} (b : Bool) {r q t u : Reader A} {P : A → Type 0} → Agree r q P → Agree t u P → Agree (pick b r t) (pick b q u) P
+pub pick-agree : {A : Type 0} (b : Bool) {r q t u : Reader A} {P : A → Type 0} → Agree r q P → Agree t u P
+    → Agree (pick b r t) (pick b q u) P
 pick-agree true g h = g
 pick-agree false g h = h
 
-pub inside-agree : {A : Type 0} (n short : ℕ) {r q : Reader A} {P : A → Type 0} → Agree r q P → Agree (inside n short r) (inside n short q) P
+pub inside-agree : {A : Type 0} (n short : ℕ) {r q : Reader A} {P : A → Type 0} → Agree r q P
+    → Agree (inside n short r) (inside n short q) P
 inside-agree {A} n short {r} {q} g = record {
   law = λ s at end next a e p.
       let w = inside-got n short r s at end next a e in
@@ -52,7 +55,8 @@ module _ {A : Type 0} where
   more-first : (f : List A → Reader A) (i : ℕ) (x : A) (xs : List A) → Gives (λ ys. (zs : List A) × (ys ≡ x ∷ zs)) (more f i (x ∷ xs))
   more-first f i x xs = then-gives (f (x ∷ xs)) λ y. give-gives (xs ++ y ∷ [], refl)
 
-  each-first : (f : List A → Reader A) (n i : ℕ) (x : A) (xs : List A) → Gives (λ ys. (zs : List A) × (ys ≡ x ∷ zs)) (counted i n (more f) (x ∷ xs))
+  each-first : (f : List A → Reader A) (n i : ℕ) (x : A) (xs : List A)
+      → Gives (λ ys. (zs : List A) × (ys ≡ x ∷ zs)) (counted i n (more f) (x ∷ xs))
   each-first f n i x xs =
       counted-gives (λ i ys. (zs : List A) × (ys ≡ x ∷ zs)) {f = more f}
       (λ i ys z. then-gives (f ys) λ y. give-gives (z .0 ++ y ∷ [], ap (λ (l : List A). l ++ y ∷ []) (z .1))) i n (x ∷ xs) (xs, refl)

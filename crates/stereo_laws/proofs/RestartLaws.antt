@@ -26,7 +26,8 @@ use Rattle.stereo_indices.specs.declared.Record.{Record}
 use Rattle.stereo_indices.specs.declared.Row.{Row}
 use Rattle.stereo.specs.Header.{header, setupAfter}
 use Rattle.stereo.specs.Frame.{frame}
-use Rattle.stereo.specs.Extension.{noPhases, phasesIn, phasesNext, phasesOf, phases, phaseFlag, v0, another, part, announced, escCount, extensionSent, extension}
+use Rattle.stereo.specs.Extension.{noPhases, phasesIn, phasesNext, phasesOf, phases, phaseFlag, v0, another, part, announced, escCount}
+use Rattle.stereo.specs.Extension.{extensionSent, extension}
 use Rattle.stereo.specs.Payload.{envelopes, payload}
 use Rattle.stereo.specs.Carried.{recordAfter, phaseRecords, carriedIn, carried}
 use Rattle.stereo.specs.Restart.{across, phasesAcross, restart}
@@ -49,7 +50,8 @@ unfolding row
 row-agree k mode h h′ =
     bind-agree {P = λ t. t ≡ 0} time-agree (λ t. then-gives (indices k mode t (h .indices)) λ xs. give-gives λ z. z) λ t z.
     subst
-    (λ (t : ℕ). Agree {A = Row} (indices k mode t (h .indices) >>= λ xs. give (record { time = t; indices = xs })) (indices k mode t (h′ .indices) >>= λ xs. give (record { time = t; indices = xs })) (λ r. r .time ≡ 0))
+    (λ (t : ℕ). Agree {A = Row} (indices k mode t (h .indices) >>= λ xs. give (record { time = t; indices = xs }))
+    (indices k mode t (h′ .indices) >>= λ xs. give (record { time = t; indices = xs })) (λ r. r .time ≡ 0))
     (sym z) (record { law = λ s at end next c e p. rw (indices-agree k mode (h .indices) (h′ .indices)) e })
   where
     time-agree : Agree (expecting 31 (allowed (h .mode) mode) (field 1)) (expecting 31 (allowed (h′ .mode) mode) (field 1)) (λ t. t ≡ 0)
@@ -63,11 +65,13 @@ row-agree k mode h h′ =
 first-across : (rs : List Row) (r : Row) (qs : List Row) → across (padded 4 noRow rs) ≡ true → rs ≡ r ∷ qs → r .time ≡ 0
 first-across rs r qs a e = eqb-true (r .time) 0 (ap (λ (l : List Row). across (padded 4 noRow l)) (sym e) ∙ a)
 
-rows-agree : (k : Kind) (on : Bool) (mode : ℕ) (h h′ : Record) (n : ℕ) → Agree (rows k on mode h n) (rows k on mode h′ n) (λ rs. across rs ≡ true)
+rows-agree : (k : Kind) (on : Bool) (mode : ℕ) (h h′ : Record) (n : ℕ)
+    → Agree (rows k on mode h n) (rows k on mode h′ n) (λ rs. across rs ≡ true)
 unfolding rows rowsOf
 rows-agree k on mode h h′ n =
     pick-agree on
-    (bind-agree (first-agree (λ rs. row k mode (recordAfterRows h mode rs)) (λ rs. row k mode (recordAfterRows h′ mode rs)) (row-agree k mode h h′) (λ x xs. refl) n)
+    (bind-agree (first-agree (λ rs. row k mode (recordAfterRows h mode rs)) (λ rs. row k mode (recordAfterRows h′ mode rs))
+    (row-agree k mode h h′) (λ x xs. refl) n)
     (λ rs. give-gives λ a r qs e. first-across rs r qs a e) λ rs _. same-agree)
     same-agree
 
@@ -82,12 +86,14 @@ next-agree mode ipd ipd′ opd opd′ =
 abbrev begin : List Phases → Bool
 begin ps = eqb (getD ps 0 noPhases .ipd .time) 0 && eqb (getD ps 0 noPhases .opd .time) 0
 
-first-begin : (ps : List Phases) (p : Phases) (qs : List Phases) → begin (padded 4 noPhases ps) ≡ true → ps ≡ p ∷ qs → (p .ipd .time ≡ 0) × (p .opd .time ≡ 0)
+first-begin : (ps : List Phases) (p : Phases) (qs : List Phases) → begin (padded 4 noPhases ps) ≡ true → ps ≡ p ∷ qs
+    → (p .ipd .time ≡ 0) × (p .opd .time ≡ 0)
 first-begin ps p qs a e =
     let w = and-both (eqb (p .ipd .time) 0) (eqb (p .opd .time) 0) (ap (λ (l : List Phases). begin (padded 4 noPhases l)) (sym e) ∙ a) in
     (eqb-true (p .ipd .time) 0 (w .0), eqb-true (p .opd .time) 0 (w .1))
 
-phasesOf-agree : (mode : ℕ) (ipd ipd′ opd opd′ : Record) (n : ℕ) → Agree (phasesOf mode ipd opd n) (phasesOf mode ipd′ opd′ n) (λ ps. begin ps ≡ true)
+phasesOf-agree : (mode : ℕ) (ipd ipd′ opd opd′ : Record) (n : ℕ)
+    → Agree (phasesOf mode ipd opd n) (phasesOf mode ipd′ opd′ n) (λ ps. begin ps ≡ true)
 unfolding phasesOf
 phasesOf-agree mode ipd ipd′ opd opd′ n =
     bind-agree (first-agree (phasesNext mode ipd opd) (phasesNext mode ipd′ opd′) (next-agree mode ipd ipd′ opd opd′) (λ x xs. refl) n)
@@ -99,7 +105,8 @@ unfolding phases
 phases-agree on mode ipd ipd′ opd opd′ n = go (eqb on 1)
   where
     go : (b : Bool)
-        → Agree (pick b (phasesOf mode ipd opd n) (give (replicate 4 noPhases))) (pick b (phasesOf mode ipd′ opd′ n) (give (replicate 4 noPhases)))
+        → Agree (pick b (phasesOf mode ipd opd n) (give (replicate 4 noPhases)))
+        (pick b (phasesOf mode ipd′ opd′ n) (give (replicate 4 noPhases)))
         (λ ps. (not b || begin ps) ≡ true)
     go true = phasesOf-agree mode ipd ipd′ opd opd′ n
     go false = same-agree
@@ -108,9 +115,11 @@ v0-agree : (mode : ℕ) (ipd ipd′ opd opd′ : Record) (n : ℕ) → Agree (v0
 unfolding v0 phasesAcross
 v0-agree mode ipd ipd′ opd opd′ n =
     then-agree (phaseFlag mode) λ phase.
-    bind-agree (phases-agree phase mode ipd ipd′ opd opd′ n) (λ ps. then-gives (zeroBit 13) λ reserved. give-gives λ z. z) λ ps _. same-agree
+    bind-agree (phases-agree phase mode ipd ipd′ opd opd′ n) (λ ps. then-gives (zeroBit 13) λ reserved. give-gives λ z. z) λ ps _.
+    same-agree
 
-part-agree : (mode : ℕ) (ipd ipd′ opd opd′ : Record) (n : ℕ) → Agree (part mode ipd opd n) (part mode ipd′ opd′ n) (λ p. phasesAcross (p .body) ≡ true)
+part-agree : (mode : ℕ) (ipd ipd′ opd opd′ : Record) (n : ℕ)
+    → Agree (part mode ipd opd n) (part mode ipd′ opd′ n) (λ p. phasesAcross (p .body) ≡ true)
 unfolding part
 part-agree mode ipd ipd′ opd opd′ n =
     bind-agree (v0-agree mode ipd ipd′ opd opd′ n) (λ b. then-gives (leftOver 7 another) λ fill. give-gives λ z. z) λ b _. same-agree
@@ -121,7 +130,8 @@ unfolding extension extensionSent announced
 extension-agree on mode ipd ipd′ opd opd′ n =
     pick-agree on
     (then-agree (field 4) λ size. then-agree (escCount size) λ esc.
-    bind-agree (pick-agree (eqb (size + esc) 0) same-agree (inside-agree (8 * (size + esc)) 33 (part-agree mode ipd ipd′ opd opd′ n))) (λ p. give-gives λ z. z) λ p _. same-agree)
+    bind-agree (pick-agree (eqb (size + esc) 0) same-agree (inside-agree (8 * (size + esc)) 33 (part-agree mode ipd ipd′ opd opd′ n)))
+    (λ p. give-gives λ z. z) λ p _. same-agree)
     same-agree
 
 pub restart-is : (c : Contents) → restart c ≡ true → Restart c
@@ -136,7 +146,8 @@ restart-is c e =
     record { there = k .0; iid-on = k .1; icc-on = j .1; some = leb-true _ _ (i .1); iid = h .1; icc = g .1; phases = f .1 }
 
 -- with such a header nothing of the old set-up stays
-setup-agree : (f g : Setup) (h : Header) → eqb (h .there) 1 ≡ true → eqb (h .iid) 1 ≡ true → eqb (h .icc) 1 ≡ true → setupAfter f h ≡ setupAfter g h
+setup-agree : (f g : Setup) (h : Header) → eqb (h .there) 1 ≡ true → eqb (h .iid) 1 ≡ true → eqb (h .icc) 1 ≡ true
+    → setupAfter f h ≡ setupAfter g h
 unfolding setupAfter
 setup-agree f g h a b c = rw (a, b, c)
 
@@ -144,10 +155,12 @@ envelopes-agree : (st st′ : State) (h : Header) (f : Setup) (fr : Frame) → A
 unfolding envelopes
 envelopes-agree st st′ h f fr =
     bind-agree (rows-agree Iid (f .iid) (f .iidmode) (st .iid) (st′ .iid) (fr .envelopes))
-    (λ iid. then-gives (rows Icc (f .icc) (f .iccmode) (st .icc) (fr .envelopes)) λ icc. then-gives (extension (f .ext) (f .iidmode) (st .ipd) (st .opd) (fr .envelopes)) λ x. give-gives λ z. z .iid) λ iid _.
+    (λ iid. then-gives (rows Icc (f .icc) (f .iccmode) (st .icc) (fr .envelopes)) λ icc.
+    then-gives (extension (f .ext) (f .iidmode) (st .ipd) (st .opd) (fr .envelopes)) λ x. give-gives λ z. z .iid) λ iid _.
     bind-agree (rows-agree Icc (f .icc) (f .iccmode) (st .icc) (st′ .icc) (fr .envelopes))
     (λ icc. then-gives (extension (f .ext) (f .iidmode) (st .ipd) (st .opd) (fr .envelopes)) λ x. give-gives λ z. z .icc) λ icc _.
-    bind-agree (extension-agree (f .ext) (f .iidmode) (st .ipd) (st′ .ipd) (st .opd) (st′ .opd) (fr .envelopes)) (λ x. give-gives λ z. z .phases) λ x _. same-agree
+    bind-agree (extension-agree (f .ext) (f .iidmode) (st .ipd) (st′ .ipd) (st .opd) (st′ .opd) (fr .envelopes))
+    (λ x. give-gives λ z. z .phases) λ x _. same-agree
 
 envelopes-header : (st : State) (h : Header) (f : Setup) (fr : Frame) → Gives (λ c. c .header ≡ h) (envelopes st h f fr)
 unfolding envelopes
@@ -169,7 +182,8 @@ payload-agree st st′ =
     }
 
 -- a restart is read the same from any state
-pub same-read : (st st′ : State) (s : List ℕ) (c : Contents) (n : ℕ) → whole (payload st) s ≡ got c n → restart c ≡ true → whole (payload st′) s ≡ got c n
+pub same-read : (st st′ : State) (s : List ℕ) (c : Contents) (n : ℕ) → whole (payload st) s ≡ got c n → restart c ≡ true
+    → whole (payload st′) s ≡ got c n
 same-read st st′ s c n e r =
     let w = whole-got (payload st) s n c e in
     whole-is (payload st′) s n c (payload-agree st st′ .law s 0 (8 * length s) n c (w .0) (restart-is c r)) (w .1)

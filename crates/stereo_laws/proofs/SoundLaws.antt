@@ -29,9 +29,10 @@ use Rattle.stereo_indices.specs.declared.Record.{Record}
 use Rattle.stereo_indices.specs.declared.Row.{Row}
 use Rattle.stereo_indices.proofs.IndexLaws.{index-ranged}
 use Rattle.stereo.specs.State.{isSent, soundSetup, sound}
-use Rattle.stereo.specs.Header.{noHeader, mode, headerFields, header, setupAfter}
+use Rattle.stereo.specs.Header.{noHeader, mode, switch, headerFields, header, setupAfter}
 use Rattle.stereo.specs.Frame.{frame}
-use Rattle.stereo.specs.Extension.{noPhases, noBody, noPart, noExtension, phasesIn, phasesNext, phasesOf, phases, hasMode, phaseFlag, v0, another, part, announced, escCount, extensionSent, extension}
+use Rattle.stereo.specs.Extension.{noPhases, noBody, noPart, noExtension, phasesIn, phasesNext, phasesOf, phases, hasMode, phaseFlag, v0}
+use Rattle.stereo.specs.Extension.{another, part, announced, escCount, extensionSent, extension}
 use Rattle.stereo.specs.Payload.{envelopes, payload}
 use Rattle.stereo.specs.Carried.{recordAfter, phaseRecords, carriedIn, carried}
 use Rattle.stereo.specs.declared.Setup.{Setup}
@@ -61,7 +62,8 @@ every-at P (x ∷ xs) (suc i) d p q = every-at P xs i d (p .1) q
 padded-gives : {A : Type 0} (P : A → Type 0) (f : List A → Reader A) → ((xs : List A) → Gives P (f xs)) → (z : A) (m n : ℕ) → P z
     → Gives (Every P) (listed n f >>= λ xs. give (padded m z xs))
 padded-gives P f g z m n p =
-    map-gives (padded m z) (listed-gives P f g n) λ xs q. every-append P xs (replicate (m - length xs) z) (q .1) (every-replicate P (m - length xs) z p)
+    map-gives (padded m z) (listed-gives P f g n) λ xs q.
+    every-append P xs (replicate (m - length xs) z) (q .1) (every-replicate P (m - length xs) z p)
 
 -- 0 is in every range
 ranged : (k : Kind) (m : ℕ) → inRange k m (pos 0) ≡ true
@@ -121,12 +123,14 @@ module _ (k : Kind) (m : ℕ) where
     row-gives : (h : Record) → Gives SoundRow (row k m h)
     unfolding row
     row-gives h =
-        then-gives (expecting 31 (allowed (h .mode) m) (field 1)) λ time. bind-gives (indices-gives time (h .indices)) (λ xs p. give-gives p)
+        then-gives (expecting 31 (allowed (h .mode) m) (field 1)) λ time.
+        bind-gives (indices-gives time (h .indices)) (λ xs p. give-gives p)
 
   rows-gives : (on : Bool) (h : Record) (n : ℕ) → (on ≡ true → isNone m ≡ false) → Gives (Every SoundRow) (rows k on m h n)
   unfolding rows rowsOf noRows
   rows-gives on h n o =
-      pick-gives on (λ e. padded-gives SoundRow (λ rs. row k m (recordAfterRows h m rs)) (λ rs. row-gives (o e) (recordAfterRows h m rs)) noRow 4 n no-row)
+      pick-gives on (λ e. padded-gives SoundRow (λ rs. row k m (recordAfterRows h m rs))
+      (λ rs. row-gives (o e) (recordAfterRows h m rs)) noRow 4 n no-row)
       (λ e. give-gives (every-replicate SoundRow 4 noRow no-row))
 
 module _ (m : ℕ) where
@@ -183,7 +187,8 @@ module _ (m : ℕ) where
     extension-gives : (on : Bool) → Gives SoundExtension (extension on m ipd opd n)
     unfolding extension extensionSent noExtension noPart
     extension-gives on =
-        pick-gives on (λ e. then-gives (field 4) λ size. then-gives (escCount size) λ esc. bind-gives (announced-gives (size + esc)) (λ p q. give-gives q))
+        pick-gives on (λ e. then-gives (field 4) λ size. then-gives (escCount size) λ esc.
+        bind-gives (announced-gives (size + esc)) (λ p q. give-gives q))
         (λ e. give-gives no-body)
 
 -- a mode that is read is at most 5
@@ -194,13 +199,15 @@ mode-gives on = pick-gives (eqb on 1) (λ e. expecting-gives 13 (λ m. leb m 5) 
 abbrev Modes : Header → Type 0
 Modes h = (leb (h .iidmode) 5 ≡ true) × (leb (h .iccmode) 5 ≡ true)
 
+switch-gives : Gives (λ x. leb (x .mode) 5 ≡ true) switch
+unfolding switch
+switch-gives = then-gives (field 1) λ on. bind-gives (mode-gives on) λ m p. give-gives p
+
 header-gives : Gives Modes header
 unfolding header headerFields noHeader
 header-gives =
     then-gives (field 1) λ there. pick-gives (eqb there 1)
-    (λ e. then-gives (field 1) λ iid. bind-gives (mode-gives iid)
-    λ a p. then-gives (field 1) λ icc. bind-gives (mode-gives icc)
-    λ b q. then-gives (field 1) (λ ext. give-gives (p, q)))
+    (λ e. bind-gives switch-gives λ iid p. bind-gives switch-gives λ icc q. then-gives (field 1) (λ ext. give-gives (p, q)))
     (λ e. give-gives (refl, refl))
 
 -- the set-up
@@ -211,7 +218,8 @@ mode-sound false new old p q = q
 mode-sent : (m : ℕ) → leb m 5 ≡ true → isSent m ≡ true
 mode-sent m p = let l = leb-true m 5 p in rw (ne-eqb m 7 (λ e. omega arith))
 
-flag-sound : (there on old : Bool) (new m : ℕ) → leb new 5 ≡ true → (not old || isSent m) ≡ true → (not (pick there on old) || isSent (pick on new m)) ≡ true
+flag-sound : (there on old : Bool) (new m : ℕ) → leb new 5 ≡ true → (not old || isSent m) ≡ true
+    → (not (pick there on old) || isSent (pick on new m)) ≡ true
 flag-sound true true old new m p q = mode-sent new p
 flag-sound true false old new m p q = refl
 flag-sound false true true new m p q = mode-sent new p
@@ -273,7 +281,8 @@ payload-gives st p =
     λ x c. give-gives (u, record { iid = a; icc = b; extension = c })
 
 -- the records
-record-sound : (k : Kind) (on : Bool) (m : ℕ) (h : Record) (n : ℕ) (xs : List ℤ) → soundRecord k h ≡ true → soundMode m ≡ true → soundFrom k m 0 xs ≡ true
+record-sound : (k : Kind) (on : Bool) (m : ℕ) (h : Record) (n : ℕ) (xs : List ℤ) → soundRecord k h ≡ true → soundMode m ≡ true
+    → soundFrom k m 0 xs ≡ true
     → soundRecord k (recordAfter on m h n xs) ≡ true
 unfolding recordAfter soundRecord none zeros
 record-sound k false m h n xs p q r = rest-sound k 7 0 34
@@ -320,9 +329,11 @@ carriedIn-sound st c f p u k =
       opd = record-sound Opd (eqb (b .phase) 1) (f .iidmode) (st .opd) n _ (p .opd) (u .iidmode) (q .1);
     }
 
-pub carried-sound : (st : State) (s : List ℕ) (n : ℕ) (c : Contents) → sound st ≡ true → whole (payload st) s ≡ got c n → sound (carried st c) ≡ true
+pub carried-sound : (st : State) (s : List ℕ) (n : ℕ) (c : Contents) → sound st ≡ true → whole (payload st) s ≡ got c n
+    → sound (carried st c) ≡ true
 unfolding carried
 carried-sound st s n c e q =
     let p = parts st e in
     let g = payload-gives st (set-up (st .setup) (p .setup)) .law s 0 (8 * length s) n c (whole-got (payload st) s n c q .0) in
-    together (carriedIn st c (setupAfter (st .setup) (c .header))) (carriedIn-sound st c (setupAfter (st .setup) (c .header)) p (g .0) (g .1))
+    together (carriedIn st c (setupAfter (st .setup) (c .header)))
+    (carriedIn-sound st c (setupAfter (st .setup) (c .header)) p (g .0) (g .1))

@@ -23,7 +23,7 @@ use Rattle.stereo_indices.specs.Indices.{indexFrom, index, indices}
 use Rattle.stereo_indices.specs.Rows.{row, rowsOf, rows}
 use Rattle.stereo_indices.specs.declared.Kind.{Kind}
 use Rattle.stereo_indices.specs.declared.Record.{Record}
-use Rattle.stereo.specs.Header.{mode, headerFields, header}
+use Rattle.stereo.specs.Header.{mode, switch, headerFields, header}
 use Rattle.stereo.specs.Frame.{bordersOf, borders, frame}
 use Rattle.stereo.specs.Extension.{phasesIn, phasesOf, phases, phaseFlag, v0, another, part, announced, escCount, extensionSent, extension}
 use Rattle.stereo.specs.Payload.{envelopes, payload}
@@ -64,9 +64,13 @@ mode-own : (on : ℕ) → Numbered own (mode on)
 unfolding mode
 mode-own on = search owns depth 8
 
+switch-own : Numbered own switch
+unfolding switch
+switch-own = search (owns, mode-own) depth 8
+
 header-own : Numbered own header
 unfolding header headerFields
-header-own = search (owns, mode-own) depth 24
+header-own = search (owns, switch-own) depth 24
 
 frame-own : Numbered own frame
 unfolding frame borders bordersOf

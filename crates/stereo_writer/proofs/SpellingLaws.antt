@@ -30,7 +30,7 @@ use Rattle.stereo_indices.specs.Rows.{noRow, recordAfterRows, row, rowsOf, rows
 use Rattle.stereo_indices.specs.declared.Kind.{Kind}
 use Rattle.stereo_indices.specs.declared.Kind.the-variants.{Iid, Icc, Ipd, Opd}
 use Rattle.stereo_indices.specs.declared.Record.{Record}
-use Rattle.stereo.specs.Header.{noHeader, mode, headerFields, header, setupAfter}
+use Rattle.stereo.specs.Header.{noHeader, mode, switch, headerFields, header, setupAfter}
 use Rattle.stereo.specs.Frame.{envelopeCount, noBorders, bordersOf, borders, frame}
 use Rattle.stereo.specs.Extension.{noPhases, noPart, ipds, opds, phasesIn, phasesNext, phasesOf, phases, phaseFlag, v0, another, part, announced, escCount, extensionSent, extension}
 use Rattle.stereo.specs.Payload.{envelopes, payload}
@@ -119,15 +119,25 @@ mode-spelt on = go (eqb on 1)
     go true = told refl (λ m o. tt) (expecting-spelt 13 _ (field-spelt 3))
     go false = give-spelt refl tt
 
+switch-spelt : Spelt switch [] (λ x. bitField (x .on) 1 ++ spellMode (x .on) (x .mode)) Any
+unfolding switch
+switch-spelt = bind-spelt (field-spelt 1) λ on _. bind-spelt (mode-spelt on) λ m _. give-spelt refl tt
+
+-- two pairs and one more, as five
+regrouped : {A : Type 0} (o a b c d e : List A) → o ++ (a ++ b ++ c ++ d ++ e) ≡ o ++ (a ++ b) ++ (c ++ d) ++ e
+regrouped o a b c d e = simp append-assoc
+
 fields-spelt : (there : ℕ) → there ≡ 1 → Spelt headerFields (bitField there 1) spellHeader Any
 unfolding headerFields spellHeader spellFields
 fields-spelt there q =
-    bind-spelt (field-spelt 1) λ iid _.
-    bind-spelt (mode-spelt iid) λ iidmode _.
-    bind-spelt (field-spelt 1) λ icc _.
-    bind-spelt (mode-spelt icc) λ iccmode _.
+    bind-spelt switch-spelt λ iid _.
+    bind-spelt switch-spelt λ icc _.
     bind-spelt (field-spelt 1) λ ext _.
-    give-spelt (rw (q, append-assoc)) tt
+    let a = bitField (iid .on) 1 in
+    let b = spellMode (iid .on) (iid .mode) in
+    let c = bitField (icc .on) 1 in
+    let d = spellMode (icc .on) (icc .mode) in
+    give-spelt (rw q (regrouped (bitField 1 1) a b c d (bitField ext 1))) tt
 
 none-spelt : (there : ℕ) → there < 2 → eqb there 1 ≡ false → Spelt (give noHeader) ([] ++ bitField there 1) spellHeader Any
 unfolding spellHeader noHeader

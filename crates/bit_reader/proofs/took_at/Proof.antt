@@ -1,3 +1,4 @@
+-- Above 20 bits it refuses at once; else the field's answer is taken apart.
 use native.Mathlib.Omega.{arith}
 use borrow.Author.Tests.{le-leb, lt-leb}
 use Rattle.bits.proofs.Taken.{answered}

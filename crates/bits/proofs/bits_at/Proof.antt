@@ -1,3 +1,4 @@
+-- Twenty bits from any place lie in four bytes; a shift and a remainder cut them out.
 use native.Mathlib.Omega.{arith}
 use lib.Pow.{pow-pos}
 use Rattle.bits.proofs.BitLaws.{bitsFrom-below}

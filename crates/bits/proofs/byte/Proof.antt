@@ -1,3 +1,4 @@
+-- A byte of the slice is below 256, and past the end it is 0.
 use native.Mathlib.Omega.{arith}
 use lib.ListN.{List·getD-eq-default}
 use mathlib.Core.Path.{refl, sym}

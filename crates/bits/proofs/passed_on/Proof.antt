@@ -1,3 +1,4 @@
+-- The answer is taken apart and put together again, number and place unchanged.
 use Rattle.bits.specs.Answers.{passedOn}
 use mathlib.Core.Path.{sym, ap}
 use borrow.Author.Needs.{needs}

@@ -1,3 +1,4 @@
+-- The two tests are the definition's one: all bits lie before the end.
 use native.Mathlib.Omega.{arith}
 use Rattle.bits.proofs.FieldLaws.{is-field, is-short}
 use borrow.Author.Needs.{needs}

@@ -1,3 +1,4 @@
+-- An index that fits a byte is itself; any other becomes 0, which no band table has.
 use borrow.Author.Tests.{lt-ltb, le-ltb}
 use borrow.Author.Needs.{needs}
 use Rattle.c_channel.proofs.narrow.Statement.{statement}

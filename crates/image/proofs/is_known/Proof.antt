@@ -1,3 +1,4 @@
+-- The four tests are the definition's.
 use borrow.Author.Tests.{eq-eqb, ne-eqb}
 use Rattle.image.proofs.is_known.Statement.{statement}
 use Rattle.image.proofs.is_known.Tie as tie

@@ -1,3 +1,4 @@
+-- The loop stops at the first offset that falls; if it does not stop, none does.
 use Prim.Native.Nat.{_+_, _*_, _-_, _<_, _≤_}
 use mathlib.Core.Path.{_≡_, sym, _∙_}
 use native.Mathlib.Omega.{arith}

@@ -1,3 +1,4 @@
+-- Two bytes, the first the more significant.
 use native.Mathlib.Omega.{arith}
 use Rattle.image.specs.Image.{pairAt}
 use borrow.Author.Needs.{needs}

@@ -1,3 +1,4 @@
+-- The header's refusal stands; else the payload's offset and the next one are its range, which lies in the image.
 use Prim.Native.Nat.{_+_, _*_}
 use mathlib.Core.Path.{_≡_, _∙_}
 use native.Mathlib.Omega.{arith}

@@ -1,3 +1,4 @@
+-- Everything but the index is judged first, then the index.
 use mathlib.Core.Path.{_≡_, sym, _∙_}
 use mathlib.Core.Bool.{true, false}
 use native.Mathlib.Omega.{arith}

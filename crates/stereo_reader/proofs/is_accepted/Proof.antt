@@ -1,3 +1,4 @@
+-- In step everything is accepted, else a restart alone.
 use mathlib.Core.Path.{_∙_}
 use borrow.Author.Needs.{needs}
 use Rattle.stereo_reader.proofs.is_accepted.Statement.{statement}

@@ -1,3 +1,4 @@
+-- An unsound state is handed back; a sound one loses its mark.
 use borrow.Author.Tests.{not-true, not-false}
 use mathlib.Core.Path.{sym, _∙_}
 use Rattle.stereo_reader.specs.Reading.{missing}

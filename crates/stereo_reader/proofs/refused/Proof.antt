@@ -1,3 +1,4 @@
+-- The state is handed back; the contents are empty.
 use borrow.Author.Needs.{needs}
 use Rattle.stereo_reader.proofs.refused.Statement.{statement}
 use Rattle.stereo_reader.proofs.refused.Tie as tie

@@ -1,3 +1,4 @@
+-- Only the mark of the state is set; the contents are empty.
 use borrow.Author.Needs.{needs}
 use Rattle.stereo_reader.proofs.refused_at.Statement.{statement}
 use Rattle.stereo_reader.proofs.refused_at.Tie as tie

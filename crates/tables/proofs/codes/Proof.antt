@@ -1,3 +1,4 @@
+-- The constant and the definition's list compute to the same numbers.
 use mathlib.Core.Path.{refl}
 use Rattle.tables.specs.Words.{allCodes}
 use Rattle.tables.proofs.codes.Statement.{statement}

@@ -1,3 +1,4 @@
+-- The constant holds the number of entries of each table.
 use mathlib.Core.Path.{refl, _∙_}
 use Rattle.tables.specs.Tables.{Table}
 use Rattle.tables.specs.Names.{tables}

@@ -1,3 +1,4 @@
+-- In reach it is the element, past the end 0.
 use mathlib.Core.Path.{sym}
 use lib.ListN.{List·getD-eq-default}
 use borrow.Author.Needs.{needs}

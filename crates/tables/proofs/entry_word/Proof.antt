@@ -1,3 +1,4 @@
+-- An entry stands at the table's first place plus its number; past the table there is no word.
 use Prim.Native.Nat.{ℕ, _+_}
 use mathlib.Core.List.{List}
 use mathlib.Core.Path.{_≡_, _∙_, ap, ap₂}

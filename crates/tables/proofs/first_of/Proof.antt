@@ -1,3 +1,4 @@
+-- The constant holds the first entry of each table.
 use mathlib.Core.Path.{refl, _∙_}
 use Rattle.tables.specs.Tables.{Table}
 use Rattle.tables.specs.Names.{tables}

@@ -1,3 +1,4 @@
+-- A run of the lent lists is the table's own, so the reader of any table reads it.
 use Prim.Native.Nat.{_+_, _-_}
 use mathlib.Core.Path.{_≡_, _∙_, ap}
 use native.Mathlib.Omega.{arith}

@@ -1,3 +1,4 @@
+-- The window's front is the word, or the word's front is the whole window, or neither: the definition's own tests.
 use borrow.Author.Tests.{le-leb, lt-leb, eq-eqb, ne-eqb}
 use borrow.Author.Needs.{needs}
 use Rattle.words.proofs.compare.Statement.{statement}

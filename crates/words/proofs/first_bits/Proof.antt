@@ -1,3 +1,4 @@
+-- At most twenty bits are taken, and no more than are left before the end.
 use Rattle.bits.specs.Bits.{bitsFrom}
 use borrow.Author.Needs.{needs}
 use Rattle.words.proofs.first_bits.Statement.{statement}

@@ -1,3 +1,4 @@
+-- The scan goes entry by entry as the definition does, with one window of bits for all of them.
 use Prim.Native.Nat.{_≤_, _<_, _-_}
 use mathlib.Core.Path.{_≡_, refl, sym, _∙_}
 use mathlib.Core.Logic.{⊎-elim}

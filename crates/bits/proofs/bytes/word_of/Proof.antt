@@ -1,3 +1,4 @@
+-- Each byte is the lowest of the number divided by a power of 256.
 use borrow.Author.Needs.{needs}
 use Rattle.bits.specs.Bytes.{wordOf}
 use Rattle.bits.proofs.bytes.word_of.Statement.{statement}

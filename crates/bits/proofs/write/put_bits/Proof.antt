@@ -1,3 +1,4 @@
+-- The most significant bit goes first: after k turns the top k bits of the number stand at the place.
 use Prim.Native.Nat.{ℕ, _+_, _-_, _/_, _%_, _^_, _≤_}
 use mathlib.Core.Path.{_≡_, refl, _∙_, ap}
 use mathlib.Core.List.{List}

@@ -1,3 +1,4 @@
+-- The old bit's weight is taken away and the new one's added; neither can leave the byte.
 use Prim.Native.Nat.{_%_, _/_, _^_}
 use native.Mathlib.Omega.{arith}
 use Rattle.bits.proofs.FourBytes.{one-shl}

@@ -1,3 +1,4 @@
+-- The byte that holds the place is replaced, its bit of weight 7 less the place modulo 8 with it.
 use borrow.Author.Needs.{needs}
 use Rattle.bits.proofs.write.set_bit.Statement.{statement}
 use Rattle.bits.proofs.write.set_bit.Tie as tie

@@ -1,3 +1,4 @@
+-- The phases of the four envelopes stand 140 bytes apart.
 use borrow.Author.Needs.{needs}
 use Rattle.c_layout.specs.ContentsBytes.{allPhasesAt}
 use Rattle.c_layout.proofs.answers.all_phases_at.Statement.{statement}

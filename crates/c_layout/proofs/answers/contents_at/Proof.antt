@@ -1,3 +1,4 @@
+-- Each part is read from its own place.
 use borrow.Author.Needs.{needs}
 use Rattle.c_layout.specs.ContentsBytes.{contentsAt}
 use Rattle.c_layout.proofs.answers.contents_at.Statement.{statement}

@@ -1,3 +1,4 @@
+-- Each field is the byte at its place.
 use borrow.Author.Needs.{needs}
 use Rattle.c_layout.specs.ContentsBytes.{extensionAt}
 use Rattle.c_layout.proofs.answers.extension_at.Statement.{statement}

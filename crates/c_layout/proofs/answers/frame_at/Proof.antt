@@ -1,3 +1,4 @@
+-- Each field is the byte at its place.
 use borrow.Author.Needs.{needs}
 use Rattle.c_layout.specs.ContentsBytes.{frameAt}
 use Rattle.c_layout.proofs.answers.frame_at.Statement.{statement}

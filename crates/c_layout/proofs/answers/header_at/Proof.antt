@@ -1,3 +1,4 @@
+-- Each field is the byte at its place.
 use borrow.Author.Needs.{needs}
 use Rattle.c_layout.specs.ContentsBytes.{headerAt}
 use Rattle.c_layout.proofs.answers.header_at.Statement.{statement}

@@ -1,3 +1,4 @@
+-- Each field is its byte, in the layout's order.
 use borrow.Author.Needs.{needs}
 use Rattle.c_layout.proofs.answers.header_bytes.Statement.{statement}
 use Rattle.c_layout.proofs.answers.header_bytes.Tie as tie

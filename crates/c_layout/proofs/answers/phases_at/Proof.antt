@@ -1,3 +1,4 @@
+-- The two rows stand one after the other.
 use borrow.Author.Needs.{needs}
 use Rattle.c_layout.specs.ContentsBytes.{phasesAt}
 use Rattle.c_layout.proofs.answers.phases_at.Statement.{statement}

@@ -1,3 +1,4 @@
+-- The flag is the byte at the place, the indices are the 34 after it.
 use borrow.Author.Needs.{needs}
 use Rattle.c_layout.specs.ContentsBytes.{rowAt}
 use Rattle.c_layout.proofs.answers.row_at.Statement.{statement}

@@ -1,3 +1,4 @@
+-- A kind's rows in the four envelopes stand 140 bytes apart.
 use borrow.Author.Needs.{needs}
 use Rattle.c_layout.specs.ContentsBytes.{rowsAt}
 use Rattle.c_layout.proofs.answers.rows_at.Statement.{statement}

@@ -1,3 +1,4 @@
+-- The 35 bytes are made first, then put as one run.
 use mathlib.Core.Path.{_≡_, _∙_}
 use lib.ListN.{length}
 use borrow.Author.Needs.{needs}

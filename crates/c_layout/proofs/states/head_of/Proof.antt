@@ -1,3 +1,4 @@
+-- Each flag and mode of the head is its byte, in the order of the layout.
 use borrow.Author.Needs.{needs}
 use Rattle.c_layout.specs.StateBytes.{stateHead}
 use Rattle.c_layout.proofs.states.head_of.Statement.{statement}

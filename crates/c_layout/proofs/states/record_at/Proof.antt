@@ -1,3 +1,4 @@
+-- The mode is the byte at the place, the indices are the 34 after it.
 use borrow.Author.Needs.{needs}
 use Rattle.c_layout.specs.StateBytes.{recordAt}
 use Rattle.c_layout.proofs.states.record_at.Statement.{statement}

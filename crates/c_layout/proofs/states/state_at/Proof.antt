@@ -1,3 +1,4 @@
+-- Each flag, mode and record is read from its own place.
 use borrow.Author.Needs.{needs}
 use Rattle.c_layout.specs.StateBytes.{stateAt}
 use Rattle.c_layout.proofs.states.state_at.Statement.{statement}

@@ -1,3 +1,4 @@
+-- A flag of 0 needs no mode; else one has to have been sent.
 use borrow.Author.Tests.{eq-eqb, ne-eqb}
 use Rattle.stereo.proofs.extensions.has_mode.Statement.{statement}
 use Rattle.stereo.proofs.extensions.has_mode.Tie as tie

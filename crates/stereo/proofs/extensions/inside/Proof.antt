@@ -1,3 +1,4 @@
+-- Only the number 10 is replaced; a success and every other refusal stand.
 use borrow.Author.Tests.{eq-eqb, ne-eqb}
 use borrow.Author.Needs.{needs}
 use Rattle.stereo.proofs.extensions.inside.Statement.{statement}

@@ -1,3 +1,4 @@
+-- No flag and four envelopes without phases.
 use Rattle.stereo.specs.Extension.{noBody}
 use borrow.Author.Needs.{needs}
 use Rattle.stereo.proofs.extensions.no_body.Statement.{statement}

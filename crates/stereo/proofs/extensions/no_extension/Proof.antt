@@ -1,3 +1,4 @@
+-- Its fields are the definition's: nothing is there.
 use Rattle.stereo.specs.Extension.{noExtension}
 use borrow.Author.Needs.{needs}
 use Rattle.stereo.proofs.extensions.no_extension.Statement.{statement}

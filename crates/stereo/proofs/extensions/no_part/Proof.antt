@@ -1,3 +1,4 @@
+-- Its fields are the definition's: no v0 and no fill bits.
 use Rattle.stereo.specs.Extension.{noPart}
 use borrow.Author.Needs.{needs}
 use Rattle.stereo.proofs.extensions.no_part.Statement.{statement}

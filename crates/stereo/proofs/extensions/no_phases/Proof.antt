@@ -1,3 +1,4 @@
+-- Both rows are rows of nothing.
 use Rattle.stereo.specs.Extension.{noPhases}
 use borrow.Author.Needs.{needs}
 use Rattle.stereo.proofs.extensions.no_phases.Statement.{statement}

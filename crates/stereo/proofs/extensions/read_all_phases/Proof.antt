@@ -1,3 +1,4 @@
+-- Where enable_ipdopd is not 1 nothing is read, and there are no phases.
 use mathlib.Core.Path.{_∙_}
 use borrow.Author.Tests.{eq-eqb, ne-eqb}
 use Rattle.stereo.specs.Extension.{phases}

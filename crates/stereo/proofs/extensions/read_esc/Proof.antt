@@ -1,3 +1,4 @@
+-- esc_count is read after a size of 15 alone.
 use mathlib.Core.Path.{_∙_}
 use borrow.Author.Tests.{eq-eqb, ne-eqb}
 use Rattle.stereo.specs.Extension.{escCount}

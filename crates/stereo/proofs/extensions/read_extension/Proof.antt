@@ -1,3 +1,4 @@
+-- An extension that is off reads nothing.
 use mathlib.Core.Path.{_∙_}
 use Rattle.stereo.specs.Extension.{extension}
 use borrow.Author.Needs.{needs}

@@ -11,20 +11,20 @@ use Rattle.stereo.proofs.extensions.read_extension_sent.Statement.{stat
 use Rattle.stereo.proofs.extensions.read_extension_sent.Tie as tie
 
 -- the size is at most 270
-size-le : (c : tie.After-known-told2) → c .before .before .before .before .before .f1 .given .0 .0 + c .before .f2 .given .0 .0 ≤ 270
+size-le : (c : tie.After-known-told2) → c .before .before .before .before .before .size-field .given .0 .0 + c .before .esc-field .given .0 .0 ≤ 270
 size-le c =
-    let k2 = c .before in
-    let f2 = k2 .before .before in
-    let k1 = f2 .before .before in
-    let a : k1 .f1 .given .0 .0 < 2 ^ 4 = field-below 4 _ _ _ _ _ (answered (k1 .before .before .read-field .ensures) (k1 .f1 .given .1)) in
-    let b : k2 .f2 .given .0 .0 < 256 = esc-below _ _ _ _ _ _ (answered (f2 .read-esc .ensures) (k2 .f2 .given .1)) in
+    let got-esc = c .before in
+    let at-esc = got-esc .before .before in
+    let got-size = at-esc .before .before in
+    let a : got-size .size-field .given .0 .0 < 2 ^ 4 = field-below 4 _ _ _ _ _ (answered (got-size .before .before .read-field .ensures) (got-size .size-field .given .1)) in
+    let b : got-esc .esc-field .given .0 .0 < 256 = esc-below _ _ _ _ _ _ (answered (at-esc .read-esc .ensures) (got-esc .esc-field .given .1)) in
     omega arith
 
 read-field-requires : tie.Need-read-field-requires
 read-field-requires c κs = search needs
 
-enum-known-f1 : tie.Need-enum-known-f1
-enum-known-f1 c = search needs
+enum-known-size-field : tie.Need-enum-known-size-field
+enum-known-size-field c = search needs
 
 enum-told : tie.Need-enum-told
 enum-told c = search needs
@@ -35,14 +35,14 @@ refused-extension-requires c κs = search needs
 returns : tie.Need-returns
 unfolding extensionSent
 returns c =
-    let f1 = c .before .before .before in
-    passed _ (c .refused-extension .ensures) (c .before .enum-told .given .1) ∙ rw (answered (f1 .read-field .ensures) (c .before .enum-told .given .1))
+    let at-size = c .before .before .before in
+    passed _ (c .refused-extension .ensures) (c .before .enum-told .given .1) ∙ rw (answered (at-size .read-field .ensures) (c .before .enum-told .given .1))
 
 read-esc-requires : tie.Need-read-esc-requires
 read-esc-requires c κs = search needs
 
-enum-known-f2 : tie.Need-enum-known-f2
-enum-known-f2 c = search needs
+enum-known-esc-field : tie.Need-enum-known-esc-field
+enum-known-esc-field c = search needs
 
 enum-told-2 : tie.Need-enum-told-2
 enum-told-2 c = search needs
@@ -53,10 +53,10 @@ refused-extension-requires-2 c κs = search needs
 returns-2 : tie.Need-returns-2
 unfolding extensionSent
 returns-2 c =
-    let f2 = c .before .before .before in
-    let k1 = f2 .before .before in
+    let at-esc = c .before .before .before in
+    let got-size = at-esc .before .before in
     passed _ (c .refused-extension2 .ensures) (c .before .enum-told2 .given .1)
-    ∙ rw (answered (k1 .before .before .read-field .ensures) (k1 .f1 .given .1), answered (f2 .read-esc .ensures) (c .before .enum-told2 .given .1))
+    ∙ rw (answered (got-size .before .before .read-field .ensures) (got-size .size-field .given .1), answered (at-esc .read-esc .ensures) (c .before .enum-told2 .given .1))
 
 add-total : tie.Need-add-total
 add-total c = let l = size-le c in record { fits = omega arith }
@@ -72,10 +72,10 @@ read-announced-requires c κs =
 returns-3 : tie.Need-returns-3
 returns-3 c =
     let r = c .before .read-announced in
-    let k2 = c .before .before .before in
-    let f2 = k2 .before .before in
-    let k1 = f2 .before .before in
-    sent-rest _ _ _ _ _ _ _ _ _ _ _ (answered (k1 .before .before .read-field .ensures) (k1 .f1 .given .1)) (answered (f2 .read-esc .ensures) (k2 .f2 .given .1))
+    let got-esc = c .before .before .before in
+    let at-esc = got-esc .before .before in
+    let got-size = at-esc .before .before in
+    sent-rest _ _ _ _ _ _ _ _ _ _ _ (answered (got-size .before .before .read-field .ensures) (got-size .size-field .given .1)) (answered (at-esc .read-esc .ensures) (got-esc .esc-field .given .1))
     (r .result .ended) (r .result .part) (r .ensures)
 
 pub read-extension-sent-spec : {M : Type 1} → statement M
@@ -83,12 +83,12 @@ read-extension-sent-spec =
     tie.close
     (tie.spec
     read-field-requires
-    enum-known-f1
+    enum-known-size-field
     enum-told
     refused-extension-requires
     returns
     read-esc-requires
-    enum-known-f2
+    enum-known-esc-field
     enum-told-2
     refused-extension-requires-2
     returns-2

@@ -11,8 +11,8 @@ use Rattle.stereo.proofs.extensions.read_phase_flag.Tie as tie
 read-field-requires : tie.Need-read-field-requires
 read-field-requires c κs = search needs
 
-enum-known-f1 : tie.Need-enum-known-f1
-enum-known-f1 c = search needs
+enum-known-id-field : tie.Need-enum-known-id-field
+enum-known-id-field c = search needs
 
 enum-told : tie.Need-enum-told
 enum-told c = search needs
@@ -26,14 +26,14 @@ returns c =
 returns-2 : tie.Need-returns-2
 unfolding phaseFlag
 returns-2 c =
-    let k1 = c .before .before in
-    rw (answered (k1 .before .before .read-field .ensures) (k1 .f1 .given .1), ne-eqb _ _ (c .if1 .taken))
+    let got-id = c .before .before in
+    rw (answered (got-id .before .before .read-field .ensures) (got-id .id-field .given .1), ne-eqb _ _ (c .if1 .taken))
 
 read-field-requires-2 : tie.Need-read-field-requires-2
 read-field-requires-2 c κs = search needs
 
-enum-known-f2 : tie.Need-enum-known-f2
-enum-known-f2 c = search needs
+enum-known-flag-field : tie.Need-enum-known-flag-field
+enum-known-flag-field c = search needs
 
 enum-told-2 : tie.Need-enum-told-2
 enum-told-2 c = search needs
@@ -42,9 +42,9 @@ returns-3 : tie.Need-returns-3
 unfolding phaseFlag
 returns-3 c =
     let t = c .enum-told2 .given .1 in
-    let f2 = c .before .before in
-    let k1 = f2 .before .before .before in
-    ap fieldAnswer t ∙ rw (answered (k1 .before .before .read-field .ensures) (k1 .f1 .given .1), eq-eqb _ _ (f2 .before .if1 .left), answered (f2 .read-field2 .ensures) t)
+    let at-flag = c .before .before in
+    let got-id = at-flag .before .before .before in
+    ap fieldAnswer t ∙ rw (answered (got-id .before .before .read-field .ensures) (got-id .id-field .given .1), eq-eqb _ _ (at-flag .before .if1 .left), answered (at-flag .read-field2 .ensures) t)
 
 has-mode-requires : tie.Need-has-mode-requires
 has-mode-requires c κs = search needs
@@ -52,30 +52,30 @@ has-mode-requires c κs = search needs
 returns-4 : tie.Need-returns-4
 unfolding phaseFlag
 returns-4 c =
-    let k2 = c .before .before .before in
-    let f2 = k2 .before .before in
-    let k1 = f2 .before .before .before in
-    rw (answered (k1 .before .before .read-field .ensures) (k1 .f1 .given .1), eq-eqb _ _ (f2 .before .if1 .left), answered (f2 .read-field2 .ensures) (k2 .f2 .given .1), sym (c .before .has-mode .ensures) ∙ c .if2 .taken)
+    let got-flag = c .before .before .before in
+    let at-flag = got-flag .before .before in
+    let got-id = at-flag .before .before .before in
+    rw (answered (got-id .before .before .read-field .ensures) (got-id .id-field .given .1), eq-eqb _ _ (at-flag .before .if1 .left), answered (at-flag .read-field2 .ensures) (got-flag .flag-field .given .1), sym (c .before .has-mode .ensures) ∙ c .if2 .taken)
 
 returns-5 : tie.Need-returns-5
 unfolding phaseFlag
 returns-5 c =
-    let k2 = c .before .before .before in
-    let f2 = k2 .before .before in
-    let k1 = f2 .before .before .before in
-    rw (answered (k1 .before .before .read-field .ensures) (k1 .f1 .given .1), eq-eqb _ _ (f2 .before .if1 .left), answered (f2 .read-field2 .ensures) (k2 .f2 .given .1), sym (c .before .has-mode .ensures) ∙ c .if2 .left)
+    let got-flag = c .before .before .before in
+    let at-flag = got-flag .before .before in
+    let got-id = at-flag .before .before .before in
+    rw (answered (got-id .before .before .read-field .ensures) (got-id .id-field .given .1), eq-eqb _ _ (at-flag .before .if1 .left), answered (at-flag .read-field2 .ensures) (got-flag .flag-field .given .1), sym (c .before .has-mode .ensures) ∙ c .if2 .left)
 
 pub read-phase-flag-spec : {M : Type 1} → statement M
 read-phase-flag-spec =
     tie.close
     (tie.spec
     read-field-requires
-    enum-known-f1
+    enum-known-id-field
     enum-told
     returns
     returns-2
     read-field-requires-2
-    enum-known-f2
+    enum-known-flag-field
     enum-told-2
     returns-3
     has-mode-requires

@@ -13,8 +13,8 @@ use Rattle.stereo.proofs.extensions.read_v0.Tie as tie
 read-phase-flag-requires : tie.Need-read-phase-flag-requires
 read-phase-flag-requires c κs = search needs
 
-enum-known-f1 : tie.Need-enum-known-f1
-enum-known-f1 c = search needs
+enum-known-flag-field : tie.Need-enum-known-flag-field
+enum-known-flag-field c = search needs
 
 enum-told : tie.Need-enum-told
 enum-told c = search needs
@@ -34,8 +34,8 @@ returns c =
 read-all-phases-requires : tie.Need-read-all-phases-requires
 read-all-phases-requires c κs = search needs
 
-enum-known-e2 : tie.Need-enum-known-e2
-enum-known-e2 c = search needs
+enum-known-phases-ended : tie.Need-enum-known-phases-ended
+enum-known-phases-ended c = search needs
 
 enum-told-2 : tie.Need-enum-told-2
 enum-told-2 c = search needs
@@ -49,7 +49,7 @@ returns-2 c =
     let r = c .before .before .before .before in
     let k = r .before .before in
     ap (λ (x : Ended). endedAnswer x (c .refused-body2 .result .body)) (c .refused-body2 .ensures ∙ t)
-    ∙ v0-cut _ _ _ _ _ _ _ _ _ _ _ (answered (k .before .before .read-phase-flag .ensures) (k .f1 .given .1)) (ended-is (r .read-all-phases .result .phases) (r .read-all-phases .ensures) t)
+    ∙ v0-cut _ _ _ _ _ _ _ _ _ _ _ (answered (k .before .before .read-phase-flag .ensures) (k .flag-field .given .1)) (ended-is (r .read-all-phases .result .phases) (r .read-all-phases .ensures) t)
 
 read-unset-bit-requires : tie.Need-read-unset-bit-requires
 read-unset-bit-requires c κs = search needs
@@ -63,8 +63,8 @@ returns-3 c =
     let e = c .before .before .before in
     let r = e .before .before .before in
     let k = r .before .before in
-    ap (λ (x : Ended). endedAnswer {A = Body} x (record { phase = k .f1 .given .0 .0; phases = r .read-all-phases .result .phases })) (c .passed-on2 .ensures)
-    ∙ v0-rest _ _ _ _ _ _ _ _ _ _ _ (answered (k .before .before .read-phase-flag .ensures) (k .f1 .given .1)) (ended-is (r .read-all-phases .result .phases) (r .read-all-phases .ensures) (e .e2 .given .1))
+    ap (λ (x : Ended). endedAnswer {A = Body} x (record { phase = k .flag-field .given .0 .0; phases = r .read-all-phases .result .phases })) (c .passed-on2 .ensures)
+    ∙ v0-rest _ _ _ _ _ _ _ _ _ _ _ (answered (k .before .before .read-phase-flag .ensures) (k .flag-field .given .1)) (ended-is (r .read-all-phases .result .phases) (r .read-all-phases .ensures) (e .phases-ended .given .1))
     (z .result) (z .ensures)
 
 pub read-v0-spec : {M : Type 1} → statement M
@@ -72,13 +72,13 @@ read-v0-spec =
     tie.close
     (tie.spec
     read-phase-flag-requires
-    enum-known-f1
+    enum-known-flag-field
     enum-told
     passed-on-requires
     refused-body-requires
     returns
     read-all-phases-requires
-    enum-known-e2
+    enum-known-phases-ended
     enum-told-2
     refused-body-requires-2
     returns-2

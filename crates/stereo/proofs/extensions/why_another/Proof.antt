@@ -1,3 +1,4 @@
+-- The two bits at the place are the id: 0 is a second v0.
 use borrow.Author.Tests.{eq-eqb, ne-eqb}
 use borrow.Author.Needs.{needs}
 use Rattle.stereo.proofs.extensions.why_another.Statement.{statement}

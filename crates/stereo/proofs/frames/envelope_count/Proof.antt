@@ -1,3 +1,4 @@
+-- The class and the index give the count of the table, at most 4.
 use native.Mathlib.Omega.{arith}
 use borrow.Author.Tests.{eq-eqb, ne-eqb}
 use Rattle.stereo.specs.Frame.{envelopeCount}

@@ -1,3 +1,4 @@
+-- The array is made of four zeros.
 use mathlib.Core.Path.{refl}
 use Rattle.stereo.specs.Frame.{noBorders}
 use Rattle.stereo.proofs.frames.no_borders.Statement.{statement}

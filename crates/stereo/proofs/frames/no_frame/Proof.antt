@@ -1,3 +1,4 @@
+-- Its fields are the definition's: all 0.
 use Rattle.stereo.specs.Frame.{noFrame}
 use borrow.Author.Needs.{needs}
 use Rattle.stereo.proofs.frames.no_frame.Statement.{statement}

@@ -1,3 +1,4 @@
+-- Fixed borders are not sent.
 use mathlib.Core.Path.{_∙_}
 use borrow.Author.Tests.{eq-eqb, ne-eqb}
 use Rattle.stereo.specs.Frame.{borders}

@@ -1,3 +1,4 @@
+-- The refusal is handed on with an empty frame beside it.
 use native.Mathlib.Omega.{arith}
 use Rattle.stereo.specs.Frame.{noFrame}
 use borrow.Author.Needs.{needs}

@@ -1,3 +1,4 @@
+-- With a header its flag is in force, else the old one.
 use borrow.Author.Tests.{eq-eqb, ne-eqb}
 use Rattle.stereo.proofs.headers.flag_after.Statement.{statement}
 use Rattle.stereo.proofs.headers.flag_after.Tie as tie

@@ -1,3 +1,4 @@
+-- A mode that was sent replaces the last one.
 use borrow.Author.Tests.{eq-eqb, ne-eqb}
 use Rattle.stereo.proofs.headers.mode_after.Statement.{statement}
 use Rattle.stereo.proofs.headers.mode_after.Tie as tie

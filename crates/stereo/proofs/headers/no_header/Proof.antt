@@ -1,3 +1,4 @@
+-- Its fields are the definition's: all 0.
 use mathlib.Core.Path.{refl}
 use Rattle.stereo.specs.Header.{noHeader}
 use Rattle.stereo.proofs.headers.no_header.Statement.{statement}

@@ -1,3 +1,4 @@
+-- The flag tells whether the header's fields follow.
 use mathlib.Core.Path.{_∙_}
 use borrow.Author.Tests.{eq-eqb, ne-eqb}
 use Rattle.bits.proofs.Taken.{answered}
@@ -16,14 +17,18 @@ enum-known-f c = search needs
 enum-told : tie.Need-enum-told
 enum-told c = search needs
 
+passed-on-requires : tie.Need-passed-on-requires
+passed-on-requires c κs = search needs
+
 refused-header-requires : tie.Need-refused-header-requires
 refused-header-requires c κs = search needs
 
 returns : tie.Need-returns
 unfolding header
 returns c =
-    let f = c .before .before .before in
-    passed _ (c .refused-header .ensures) (c .before .enum-told .given .1) ∙ rw (answered (f .read-field .ensures) (c .before .enum-told .given .1))
+    let f = c .before .before .before .before in
+    let told = c .before .before .enum-told .given .1 in
+    passed _ (c .refused-header .ensures ∙ c .before .passed-on .ensures) told ∙ rw (answered (f .read-field .ensures) told)
 
 read-header-fields-requires : tie.Need-read-header-fields-requires
 read-header-fields-requires c κs = search needs
@@ -50,6 +55,7 @@ read-header-spec =
     read-field-requires
     enum-known-f
     enum-told
+    passed-on-requires
     refused-header-requires
     returns
     read-header-fields-requires

@@ -1,3 +1,4 @@
+-- Each flag and mode goes by the definition of its own.
 use Rattle.stereo.specs.Header.{setupAfter}
 use borrow.Author.Needs.{needs}
 use Rattle.stereo.proofs.headers.setup_after.Statement.{statement}

@@ -1,3 +1,4 @@
+-- Each part is the definition's part of nothing.
 use Rattle.stereo.specs.Payload.{noContents}
 use borrow.Author.Needs.{needs}
 use Rattle.stereo.proofs.payloads.no_contents.Statement.{statement}

@@ -11,8 +11,8 @@ use Rattle.stereo.proofs.payloads.read_envelopes.Tie as tie
 read-levels-requires : tie.Need-read-levels-requires
 read-levels-requires c κs = search needs
 
-enum-known-e1 : tie.Need-enum-known-e1
-enum-known-e1 c = search needs
+enum-known-levels-ended : tie.Need-enum-known-levels-ended
+enum-known-levels-ended c = search needs
 
 enum-told : tie.Need-enum-told
 enum-told c = search needs
@@ -30,8 +30,8 @@ returns c =
 read-coherences-requires : tie.Need-read-coherences-requires
 read-coherences-requires c κs = search needs
 
-enum-known-e2 : tie.Need-enum-known-e2
-enum-known-e2 c = search needs
+enum-known-coherences-ended : tie.Need-enum-known-coherences-ended
+enum-known-coherences-ended c = search needs
 
 enum-told-2 : tie.Need-enum-told-2
 enum-told-2 c = search needs
@@ -46,7 +46,7 @@ returns-2 c =
     let e = q .before .before in
     let r = e .before .before .before in
     ap (λ (x : Ended). endedAnswer x (c .refused-contents2 .result .contents)) (c .refused-contents2 .ensures ∙ t)
-    ∙ icc-refused _ _ _ _ _ _ _ _ _ _ _ (ended-is (r .read-levels .result .rows) (r .read-levels .ensures) (e .e1 .given .1)) (ended-is (q .read-coherences .result .rows) (q .read-coherences .ensures) t)
+    ∙ icc-refused _ _ _ _ _ _ _ _ _ _ _ (ended-is (r .read-levels .result .rows) (r .read-levels .ensures) (e .levels-ended .given .1)) (ended-is (q .read-coherences .result .rows) (q .read-coherences .ensures) t)
 
 read-rest-requires : tie.Need-read-rest-requires
 read-rest-requires c κs = search needs
@@ -58,7 +58,7 @@ returns-3 c =
     let q = d .before .before .before in
     let e = q .before .before in
     let r = e .before .before .before in
-    envelopes-rest _ _ _ _ _ _ _ _ _ _ _ (ended-is (r .read-levels .result .rows) (r .read-levels .ensures) (e .e1 .given .1)) (ended-is (q .read-coherences .result .rows) (q .read-coherences .ensures) (d .e2 .given .1))
+    envelopes-rest _ _ _ _ _ _ _ _ _ _ _ (ended-is (r .read-levels .result .rows) (r .read-levels .ensures) (e .levels-ended .given .1)) (ended-is (q .read-coherences .result .rows) (q .read-coherences .ensures) (d .coherences-ended .given .1))
     (x .result .ended) (x .result .extension) (x .ensures)
 
 pub read-envelopes-spec : {M : Type 1} → statement M
@@ -66,12 +66,12 @@ read-envelopes-spec =
     tie.close
     (tie.spec
     read-levels-requires
-    enum-known-e1
+    enum-known-levels-ended
     enum-told
     refused-contents-requires
     returns
     read-coherences-requires
-    enum-known-e2
+    enum-known-coherences-ended
     enum-told-2
     refused-contents-requires-2
     returns-2

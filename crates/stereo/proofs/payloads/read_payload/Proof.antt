@@ -11,8 +11,8 @@ use Rattle.stereo.proofs.payloads.read_payload.Tie as tie
 read-header-requires : tie.Need-read-header-requires
 read-header-requires c κs = search needs
 
-enum-known-e1 : tie.Need-enum-known-e1
-enum-known-e1 c = search needs
+enum-known-header-ended : tie.Need-enum-known-header-ended
+enum-known-header-ended c = search needs
 
 enum-told : tie.Need-enum-told
 enum-told c = search needs
@@ -30,8 +30,8 @@ returns c =
 read-frame-requires : tie.Need-read-frame-requires
 read-frame-requires c κs = search needs
 
-enum-known-e2 : tie.Need-enum-known-e2
-enum-known-e2 c = search needs
+enum-known-frame-ended : tie.Need-enum-known-frame-ended
+enum-known-frame-ended c = search needs
 
 enum-told-2 : tie.Need-enum-told-2
 enum-told-2 c = search needs
@@ -46,7 +46,7 @@ returns-2 c =
     let e = q .before .before in
     let r = e .before .before .before in
     ap (λ (x : Ended). endedAnswer x (c .refused-contents2 .result .contents)) (c .refused-contents2 .ensures ∙ t)
-    ∙ frame-refused _ _ _ _ _ _ _ _ (ended-is (r .read-header .result .header) (r .read-header .ensures) (e .e1 .given .1)) (ended-is (q .read-frame .result .frame) (q .read-frame .ensures .0) t)
+    ∙ frame-refused _ _ _ _ _ _ _ _ (ended-is (r .read-header .result .header) (r .read-header .ensures) (e .header-ended .given .1)) (ended-is (q .read-frame .result .frame) (q .read-frame .ensures .0) t)
 
 setup-after-requires : tie.Need-setup-after-requires
 setup-after-requires c κs = search needs
@@ -61,19 +61,19 @@ returns-3 c =
     let e = q .before .before in
     let r = e .before .before .before in
     rw (c .before .setup-after .ensures) at (c .read-envelopes .ensures)
-    ∙ payload-rest _ _ _ _ _ _ _ _ (ended-is (r .read-header .result .header) (r .read-header .ensures) (e .e1 .given .1)) (ended-is (q .read-frame .result .frame) (q .read-frame .ensures .0) (d .e2 .given .1))
+    ∙ payload-rest _ _ _ _ _ _ _ _ (ended-is (r .read-header .result .header) (r .read-header .ensures) (e .header-ended .given .1)) (ended-is (q .read-frame .result .frame) (q .read-frame .ensures .0) (d .frame-ended .given .1))
 
 pub read-payload-spec : {M : Type 1} → statement M
 read-payload-spec =
     tie.close
     (tie.spec
     read-header-requires
-    enum-known-e1
+    enum-known-header-ended
     enum-told
     refused-contents-requires
     returns
     read-frame-requires
-    enum-known-e2
+    enum-known-frame-ended
     enum-told-2
     refused-contents-requires-2
     returns-2

@@ -1,3 +1,4 @@
+-- What is in force after the header is handed to the reading of the envelopes.
 use borrow.Author.Needs.{needs}
 use Rattle.stereo.proofs.payloads.read_rest.Statement.{statement}
 use Rattle.stereo.proofs.payloads.read_rest.Tie as tie

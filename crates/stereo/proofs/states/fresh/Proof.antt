@@ -1,3 +1,4 @@
+-- Its fields are the definition's: nothing enabled, no modes, no records, in step.
 use Rattle.stereo.specs.State.{fresh, freshSetup}
 use borrow.Author.Needs.{needs}
 use Rattle.stereo.proofs.states.fresh.Statement.{statement}

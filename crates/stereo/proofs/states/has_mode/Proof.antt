@@ -1,3 +1,4 @@
+-- A kind that is off needs no mode; else one has to have been sent.
 use borrow.Author.Needs.{needs}
 use Rattle.stereo.proofs.states.has_mode.Statement.{statement}
 use Rattle.stereo.proofs.states.has_mode.Tie as tie

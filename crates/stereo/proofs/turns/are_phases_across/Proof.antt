@@ -1,3 +1,4 @@
+-- Without phases there is nothing to ask; else both first flags are 0.
 use borrow.Author.Tests.{eq-eqb, ne-eqb}
 use Rattle.stereo.specs.Restart.{phasesAcross}
 use borrow.Author.Needs.{needs}

@@ -1,3 +1,4 @@
+-- What is in force and the four records are each the definition's.
 use Rattle.stereo.specs.Carried.{carriedIn, carried}
 use borrow.Author.Needs.{needs}
 use Rattle.stereo.proofs.turns.carried.Statement.{statement}

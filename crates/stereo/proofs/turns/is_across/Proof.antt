@@ -1,3 +1,4 @@
+-- The first row's time flag is compared with 0.
 use borrow.Author.Needs.{needs}
 use Rattle.stereo.proofs.turns.is_across.Statement.{statement}
 use Rattle.stereo.proofs.turns.is_across.Tie as tie

@@ -1,3 +1,4 @@
+-- The last of n envelopes stands at n less one.
 use mathlib.Core.Path.{_∙_}
 use borrow.Author.Needs.{needs}
 use Rattle.stereo.proofs.turns.last_phases.Statement.{statement}

@@ -1,3 +1,4 @@
+-- The last of n envelopes stands at n less one.
 use borrow.Author.Needs.{needs}
 use Rattle.stereo.proofs.turns.last_row.Statement.{statement}
 use Rattle.stereo.proofs.turns.last_row.Tie as tie

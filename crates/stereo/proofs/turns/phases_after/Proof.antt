@@ -1,3 +1,4 @@
+-- Each phase's record goes by the same rule, with enable_ipdopd for its flag.
 use Rattle.stereo.specs.Carried.{phaseRecords}
 use borrow.Author.Needs.{needs}
 use Rattle.stereo.proofs.turns.phases_after.Statement.{statement}

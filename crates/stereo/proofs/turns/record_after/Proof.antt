@@ -1,3 +1,4 @@
+-- Off gives none; no envelopes keep the record; else the last indices in the mode in force.
 use mathlib.Core.Path.{_≡_}
 use mathlib.Core.Bool.{true, false}
 use borrow.Author.Tests.{eq-eqb, ne-eqb, not-true, not-false}

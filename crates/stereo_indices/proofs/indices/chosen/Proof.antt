@@ -1,3 +1,4 @@
+-- The flag chooses, as in the definition.
 use borrow.Author.Tests.{eq-eqb, ne-eqb}
 use mir.Syntax.{w8}
 use mir.ValLaws.{toZ-ofZ}

@@ -1,3 +1,4 @@
+-- Phases have the smaller counts; no count is above 34.
 use mathlib.Core.Path.{_≡_, _∙_, sym}
 use Rattle.stereo_indices.specs.Kind.{bands}
 use Rattle.stereo_indices.proofs.KindLaws.{bands-le}

@@ -1,3 +1,4 @@
+-- The two tests on the mode modulo 3 are the definition's.
 use borrow.Author.Tests.{eq-eqb, ne-eqb}
 use Rattle.stereo_indices.proofs.kinds.by_mode.Statement.{statement}
 use Rattle.stereo_indices.proofs.kinds.by_mode.Tie as tie

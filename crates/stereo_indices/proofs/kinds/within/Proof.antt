@@ -1,3 +1,4 @@
+-- Not below and not above are the definition's two tests.
 use mir.Syntax.{w16}
 use mir.ValLaws.{toZ-ofZ}
 use Rattle.stereo_indices.specs.Kind.{within}

@@ -1,3 +1,4 @@
+-- None agrees with every mode; else the modes are compared.
 use borrow.Author.Tests.{eq-eqb, ne-eqb}
 use Rattle.stereo_indices.specs.Record.{agrees}
 use Rattle.stereo_indices.proofs.records.agrees.Statement.{statement}

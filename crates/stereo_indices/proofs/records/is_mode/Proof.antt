@@ -1,3 +1,4 @@
+-- Modes 0 to 5 and none are the definition's two tests.
 use borrow.Author.Tests.{le-leb, lt-leb}
 use Rattle.stereo_indices.proofs.records.is_mode.Statement.{statement}
 use Rattle.stereo_indices.proofs.records.is_mode.Tie as tie

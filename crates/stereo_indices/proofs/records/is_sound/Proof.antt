@@ -1,3 +1,4 @@
+-- The mode is tested first, then every index.
 use borrow.Author.Tests.{not-true, not-false}
 use mathlib.Core.Path.{sym, _∙_}
 use Rattle.stereo_indices.specs.Record.{soundRecord}

@@ -1,3 +1,4 @@
+-- Mode 7 and 34 zeros are the definition's record of none.
 use Rattle.stereo_indices.specs.Record.{none}
 use borrow.Author.Needs.{needs}
 use Rattle.stereo_indices.proofs.records.none.Statement.{statement}

@@ -1,3 +1,4 @@
+-- None has no bands, any other mode those of the kind.
 use mathlib.Core.Path.{_∙_}
 use borrow.Author.Tests.{eq-eqb, ne-eqb}
 use borrow.Author.Needs.{needs}

@@ -1,3 +1,4 @@
+-- The array is made of 34 zeros.
 use Rattle.stereo_indices.specs.Record.{zeros}
 use mathlib.Core.Path.{refl}
 use Rattle.stereo_indices.proofs.records.zeros.Statement.{statement}

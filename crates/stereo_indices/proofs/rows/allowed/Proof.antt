@@ -1,3 +1,4 @@
+-- Across frequency anything stands; across time the modes have to agree.
 use mathlib.Core.Path.{_∙_}
 use borrow.Author.Tests.{eq-eqb, ne-eqb}
 use borrow.Author.Needs.{needs}

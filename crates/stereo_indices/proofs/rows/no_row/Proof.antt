@@ -1,3 +1,4 @@
+-- No time flag and 34 zeros are the definition's row of nothing.
 use Rattle.stereo_indices.specs.Rows.{noRow}
 use borrow.Author.Needs.{needs}
 use Rattle.stereo_indices.proofs.rows.no_row.Statement.{statement}

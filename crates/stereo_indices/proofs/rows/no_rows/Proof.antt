@@ -1,3 +1,4 @@
+-- The array is made of four rows of nothing.
 use Rattle.stereo_indices.specs.Rows.{noRows}
 use borrow.Author.Needs.{needs}
 use Rattle.stereo_indices.proofs.rows.no_rows.Statement.{statement}

@@ -1,3 +1,4 @@
+-- A kind that is off reads nothing and gives rows of nothing.
 use mathlib.Core.Path.{_∙_}
 use Rattle.stereo_indices.specs.Rows.{rows}
 use borrow.Author.Needs.{needs}

@@ -1,3 +1,4 @@
+-- The table across time follows the one across frequency.
 use borrow.Author.Tests.{eq-eqb, ne-eqb}
 use native.Mathlib.Omega.{arith}
 use Rattle.stereo_indices.specs.InnerTables.{differenceNumber}

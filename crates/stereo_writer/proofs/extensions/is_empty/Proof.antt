@@ -1,3 +1,4 @@
+-- A size and an esc_count of 0 announce nothing.
 use native.Mathlib.Nat.{zero-add}
 use Prim.Native.Nat.{_+_}
 use borrow.Author.Tests.{ne-eqb}

@@ -1,3 +1,4 @@
+-- v0 and the fill bits, at most seven of them, are put one after the other.
 use Rattle.stereo_writer.proofs.WroteLaws.{wrote-nothing, wrote-then, wrote-as, wrote-most}
 use Rattle.stereo_writer.specs.Spelling.{spellPart}
 use native.Mathlib.Omega.{arith}

@@ -1,3 +1,4 @@
+-- The id, the flag, the phases and the reserved bit are put in the order of the spelling.
 use Rattle.stereo_writer.proofs.WroteLaws.{wrote-then}
 use Rattle.stereo_writer.specs.Spelling.{spellBody}
 use native.Mathlib.Omega.{arith}

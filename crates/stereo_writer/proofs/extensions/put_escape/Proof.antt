@@ -1,3 +1,4 @@
+-- esc_count is put after a size of 15 alone.
 use Rattle.stereo_writer.proofs.WroteLaws.{wrote-as, wrote-nothing}
 use borrow.Author.Tests.{eq-eqb, ne-eqb}
 use borrow.Author.Needs.{needs}

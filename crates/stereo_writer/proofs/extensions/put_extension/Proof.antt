@@ -1,3 +1,4 @@
+-- The size, esc_count and the part are put in the order of the spelling.
 use Rattle.stereo_writer.proofs.WroteLaws.{wrote-nothing, wrote-then, wrote-as}
 use Rattle.stereo_writer.specs.Spelling.{spellExtension, spellSent, spellAnnounced}
 use borrow.Author.Tests.{not-true, not-false}

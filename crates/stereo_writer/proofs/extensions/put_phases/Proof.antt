@@ -1,3 +1,4 @@
+-- The IPD row and then the OPD row, each after its record.
 use Rattle.stereo_writer.proofs.WroteLaws.{wrote-then}
 use native.Mathlib.Omega.{arith}
 use borrow.Author.Needs.{needs}

@@ -1,3 +1,4 @@
+-- The index of a count, by the class; at most four envelopes are spelled.
 use Rattle.stereo_writer.specs.Spelling.{countIndex}
 use borrow.Author.Tests.{eq-eqb, ne-eqb}
 use borrow.Author.Needs.{needs}

@@ -1,3 +1,4 @@
+-- After k turns the first k borders stand one after another, 5 bits each.
 use Rattle.stereo_writer.proofs.WroteLaws.{wrote-none, wrote-nothing, wrote-then, wrote-as, wrote-most, wrote-length, room-after, each-more, taken-whole}
 use Rattle.stereo_writer.specs.Spelling.{spellBorder, spellBorders}
 use Rattle.stereo_writer.specs.InnerWrote.{Wrote}

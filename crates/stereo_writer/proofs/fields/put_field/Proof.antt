@@ -1,3 +1,4 @@
+-- The low bits of the number are put, as one piece.
 use native.Mathlib.Omega.{arith}
 use Rattle.stereo_writer.proofs.WroteLaws.{wrote-piece}
 use borrow.Author.Needs.{needs}

@@ -1,3 +1,4 @@
+-- Each field of a header that is there is put in its order.
 use Rattle.stereo_writer.proofs.WroteLaws.{wrote-then}
 use Rattle.stereo_writer.specs.Spelling.{spellFields}
 use native.Mathlib.Omega.{arith}

@@ -1,3 +1,4 @@
+-- Class, index and borders are put in the order of the spelling.
 use Rattle.stereo_writer.proofs.WroteLaws.{wrote-then, wrote-as}
 use Rattle.stereo_writer.specs.Spelling.{spellFrame}
 use native.Mathlib.Omega.{arith}

@@ -1,3 +1,4 @@
+-- The flag is put, and the fields where it is 1.
 use Rattle.stereo_writer.proofs.WroteLaws.{wrote-then, wrote-as, wrote-most}
 use Rattle.stereo_writer.specs.Spelling.{spellHeader}
 use borrow.Author.Tests.{eq-eqb, ne-eqb}

@@ -1,3 +1,4 @@
+-- A mode is put after an enable bit of 1 alone.
 use Rattle.stereo_writer.proofs.WroteLaws.{wrote-as, wrote-nothing}
 use Rattle.stereo_writer.specs.Spelling.{spellMode}
 use borrow.Author.Tests.{eq-eqb, ne-eqb}

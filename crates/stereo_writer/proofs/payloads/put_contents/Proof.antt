@@ -1,3 +1,4 @@
+-- Header, frame, rows and extension are put in the order of the spelling.
 use Rattle.stereo_writer.proofs.WroteLaws.{wrote-then, wrote-as, room-after}
 use Rattle.stereo_writer.specs.Spelling.{spellingIn, spelling}
 use native.Mathlib.Omega.{arith}

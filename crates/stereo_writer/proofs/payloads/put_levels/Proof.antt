@@ -1,3 +1,4 @@
+-- The rows of IID come after header and frame.
 use Rattle.stereo_writer.proofs.WroteLaws.{wrote-then}
 use native.Mathlib.Omega.{arith}
 use borrow.Author.Needs.{needs}

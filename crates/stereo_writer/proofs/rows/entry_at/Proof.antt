@@ -1,3 +1,4 @@
+-- The reference is the record's index across time, else the one before, or 0 for the first.
 use lib.Seq.{getD-take, length-take-le}
 use Prim.Native.Nat.{_-_}
 use Rattle.stereo_indices.specs.Indices.{reference}

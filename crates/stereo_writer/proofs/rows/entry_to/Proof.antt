@@ -1,3 +1,4 @@
+-- The difference of two indices, moved by the table's middle, is the entry; of phases modulo 8.
 use mir.ValLaws.{toZ-ofZ}
 use mir.Syntax.{w8, w16}
 use Rattle.stereo_writer.proofs.EntryLaws.{step, gap-fits, step-fits, step-thru, step-abs}

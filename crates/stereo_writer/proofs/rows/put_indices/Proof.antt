@@ -1,3 +1,4 @@
+-- After i turns the words of the first i indices stand one after another.
 use Rattle.stereo_writer.proofs.WroteLaws.{wrote-length, wrote-none, wrote-then, wrote-as, wrote-most, room-after, each-more}
 use Rattle.stereo_writer.specs.Spelling.{spellIndex}
 use Rattle.stereo_writer.specs.InnerWrote.{Wrote}

@@ -1,3 +1,4 @@
+-- The time flag is put, then the indices.
 use Rattle.stereo_writer.proofs.WroteLaws.{wrote-then}
 use Rattle.stereo_writer.specs.Spelling.{spellRow}
 use native.Mathlib.Omega.{arith}

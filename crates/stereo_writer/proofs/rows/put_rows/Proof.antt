@@ -1,3 +1,4 @@
+-- After k turns the rows of the first k envelopes stand one after another, each after the record before it.
 use Rattle.stereo_writer.proofs.WroteLaws.{wrote-none, wrote-nothing, wrote-then, wrote-as, wrote-most, wrote-length, room-after, each-more, taken-whole, record-more}
 use Rattle.stereo_writer.specs.Spelling.{spellNext, spellRows}
 use Rattle.stereo_writer.specs.InnerWrote.{Wrote}

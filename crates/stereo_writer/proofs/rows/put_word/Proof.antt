@@ -1,3 +1,4 @@
+-- An entry's word is put with its own length; one that there is not takes no bits.
 use Rattle.stereo_writer.proofs.WroteLaws.{wrote-as, wrote-most}
 use borrow.Author.Needs.{needs}
 use Rattle.stereo_writer.proofs.rows.put_word.Statement.{statement}

@@ -1,3 +1,4 @@
+-- The loop stops at the first difference; if it does not stop, all four are the same.
 use mathlib.Core.List.{[]}
 use Rattle.stereo_writer.proofs.ListSame.{SoFar, same-start, same-more, same-stop, same-done}
 use Rattle.stereo_writer.specs.Same.{samePhases}

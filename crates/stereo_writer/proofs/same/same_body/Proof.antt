@@ -1,3 +1,4 @@
+-- The flags are compared, then the phases.
 use Rattle.stereo_writer.specs.Same.{sameBody}
 use borrow.Author.Tests.{eq-eqb, ne-eqb}
 use mathlib.Core.Path.{_∙_}

@@ -1,3 +1,4 @@
+-- The loop stops at the first difference; if it does not stop, all four are the same.
 use Rattle.stereo_writer.proofs.ListSame.{SoFar, same-start, same-more, same-stop, same-done}
 use lib.Dec.{eqb}
 use borrow.Author.Tests.{eq-eqb, ne-eqb}

@@ -1,3 +1,4 @@
+-- Part by part: each comparison is the definition's next one.
 use Rattle.stereo_writer.specs.Same.{sameContents}
 use borrow.Author.Tests.{not-true, not-false}
 use mathlib.Core.Path.{_∙_}

@@ -1,3 +1,4 @@
+-- Field by field: each comparison is the definition's next one.
 use Rattle.stereo_writer.specs.Same.{sameFrame}
 use borrow.Author.Tests.{eq-eqb, ne-eqb}
 use mathlib.Core.Path.{_∙_}

@@ -1,3 +1,4 @@
+-- Field by field: each comparison is the definition's next one.
 use Rattle.stereo_writer.specs.Same.{sameHeader}
 use borrow.Author.Tests.{eq-eqb, ne-eqb}
 use Rattle.stereo_writer.proofs.same.same_header.Statement.{statement}

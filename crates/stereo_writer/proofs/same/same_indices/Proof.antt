@@ -1,3 +1,4 @@
+-- The loop stops at the first difference; if it does not stop, all 34 are the same.
 use Rattle.stereo_writer.proofs.ListSame.{index-same, index-differs, SoFar, same-start, same-more, same-stop, same-done}
 use mir.ValLaws.{toZ-ofZ}
 use mir.Val.{SFits, toZ, ofZ}

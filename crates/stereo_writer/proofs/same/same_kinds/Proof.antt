@@ -1,3 +1,4 @@
+-- The IID rows are compared, then the ICC rows.
 use borrow.Author.Tests.{not-true, not-false}
 use mathlib.Core.Path.{_∙_}
 use borrow.Author.Needs.{needs}

@@ -1,3 +1,4 @@
+-- The IPD rows are compared, then the OPD rows.
 use Rattle.stereo_writer.specs.Same.{samePhases}
 use borrow.Author.Tests.{not-true, not-false}
 use mathlib.Core.Path.{_∙_}

@@ -1,3 +1,4 @@
+-- The time flags are compared, then the indices.
 use Rattle.stereo_writer.specs.Same.{sameRow}
 use borrow.Author.Tests.{eq-eqb, ne-eqb}
 use mathlib.Core.Path.{_∙_}

@@ -1,3 +1,4 @@
+-- The reader runs over the spelled bits, and what it gives is compared with the contents.
 use borrow.Author.Needs.{needs}
 use Rattle.stereo_writer.proofs.writing.is_read_back.Statement.{statement}
 use Rattle.stereo_writer.proofs.writing.is_read_back.Tie as tie

@@ -1,3 +1,4 @@
+-- The pieces are put into the scratch array from its first bit on, and read back from there.
 use Rattle.bits.specs.Pieces.{total}
 use Rattle.stereo_writer.proofs.WritingLaws.{spelled-can}
 use Rattle.stereo_writer.proofs.WroteLaws.{wrote-length}

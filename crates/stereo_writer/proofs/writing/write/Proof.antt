@@ -1,3 +1,4 @@
+-- Each return shows the tests of `writing` up to the one that refused; the last one copies the spelling out.
 use Rattle.stereo_writer.specs.Writing.{writing, writtenOver}
 use Rattle.stereo_writer.specs.Spelling.{spelling}
 use Rattle.bits.proofs.PackedLaws.{scratch-bytes}

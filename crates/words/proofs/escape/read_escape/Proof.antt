@@ -1,3 +1,4 @@
+-- The ones tell the width of the number after them; every refusal is moved to the escape's first bit.
 use Prim.Native.Nat.{_+_}
 use mathlib.Core.Path.{sym}
 use native.Mathlib.Omega.{arith}

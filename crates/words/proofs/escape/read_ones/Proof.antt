@@ -1,3 +1,4 @@
+-- Each turn reads one bit; the ninth one is refused where the definition's count runs out.
 use Prim.Native.Nat.{_-_, _≤_}
 use mathlib.Core.Path.{_≡_, refl, sym, _∙_}
 use native.Mathlib.Omega.{arith}

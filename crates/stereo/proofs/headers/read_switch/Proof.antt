@@ -1,0 +1,74 @@
+-- An enable bit and its mode, one after the other: each `return` shows those that were there, and the one that was refused.
+use mathlib.Core.Path.{_∙_}
+use Rattle.bits.proofs.Taken.{answered}
+use Rattle.stereo.specs.Header.{switch}
+use Rattle.stereo.proofs.ReadLaws.{passed}
+use borrow.Author.Needs.{needs}
+use Rattle.stereo.proofs.headers.read_switch.Statement.{statement}
+use Rattle.stereo.proofs.headers.read_switch.Tie as tie
+
+read-field-requires : tie.Need-read-field-requires
+read-field-requires c κs = search needs
+
+enum-known-flag : tie.Need-enum-known-flag
+enum-known-flag c = search needs
+
+enum-told : tie.Need-enum-told
+enum-told c = search needs
+
+refused-switch-requires : tie.Need-refused-switch-requires
+refused-switch-requires c κs = search needs
+
+returns : tie.Need-returns
+unfolding switch
+returns c =
+    let at-flag = c .before .before .before in
+    let told = c .before .enum-told .given .1 in
+    passed _ (c .refused-switch .ensures) told ∙ rw (answered (at-flag .read-field .ensures) told)
+
+read-mode-requires : tie.Need-read-mode-requires
+read-mode-requires c κs = search needs
+
+enum-known-sent : tie.Need-enum-known-sent
+enum-known-sent c = search needs
+
+enum-told-2 : tie.Need-enum-told-2
+enum-told-2 c = search needs
+
+refused-switch-requires-2 : tie.Need-refused-switch-requires-2
+refused-switch-requires-2 c κs = search needs
+
+returns-2 : tie.Need-returns-2
+unfolding switch
+returns-2 c =
+    let at-mode = c .before .before .before in
+    let got-flag = at-mode .before .before in
+    let at-flag = got-flag .before .before in
+    let told = c .before .enum-told2 .given .1 in
+    passed _ (c .refused-switch2 .ensures) told
+    ∙ rw (answered (at-flag .read-field .ensures) (got-flag .flag .given .1), answered (at-mode .read-mode .ensures) told)
+
+returns-3 : tie.Need-returns-3
+unfolding switch
+returns-3 c =
+    let got-mode = c .before in
+    let at-mode = got-mode .before .before in
+    let got-flag = at-mode .before .before in
+    let at-flag = got-flag .before .before in
+    rw (answered (at-flag .read-field .ensures) (got-flag .flag .given .1), answered (at-mode .read-mode .ensures) (got-mode .sent .given .1))
+
+pub read-switch-spec : {M : Type 1} → statement M
+read-switch-spec =
+    tie.close
+    (tie.spec
+    read-field-requires
+    enum-known-flag
+    enum-told
+    refused-switch-requires
+    returns
+    read-mode-requires
+    enum-known-sent
+    enum-told-2
+    refused-switch-requires-2
+    returns-2
+    returns-3)
