@@ -38,10 +38,12 @@ give-back = record { law = λ s at end h l. rw add-zero }
 pub field-back : {n v : ℕ} → Back (field n) v (piece v n ∷ [])
 field-back {n} {v} = record { law = λ s at end h l. rw add-zero (sym (is-field n s at end (omega arith) (sym (h .0)))) }
 
-pub expecting-back : {A : Type 0} (n : ℕ) (t : A → Bool) {r : Reader A} {a : A} {ps : List Piece} → t a ≡ true → Back r a ps → Back (expecting n t r) a ps
+pub expecting-back : {A : Type 0} (n : ℕ) (t : A → Bool) {r : Reader A} {a : A} {ps : List Piece} → t a ≡ true → Back r a ps
+    → Back (expecting n t r) a ps
 expecting-back n t e g = record { law = λ s at end h l. rw (g .law s at end h l, e) }
 
-pub pick-back : {A : Type 0} (b : Bool) {r q : Reader A} {a : A} {ps : List Piece} → (b ≡ true → Back r a ps) → (b ≡ false → Back q a ps) → Back (pick b r q) a ps
+pub pick-back : {A : Type 0} (b : Bool) {r q : Reader A} {a : A} {ps : List Piece} → (b ≡ true → Back r a ps)
+    → (b ≡ false → Back q a ps) → Back (pick b r q) a ps
 pick-back true g h = g refl
 pick-back false g h = h refl
 
@@ -85,7 +87,8 @@ module _ {A : Type 0} (f : List A → Reader A) (w : List A → A → List Piece
   from-back i xs [] b = record { law = λ s at end h l. rw (append-nil xs, add-zero) }
   from-back i xs (y ∷ ys) b =
       let one : Back (more f i xs) (xs ++ y ∷ []) (w xs y) =
-      subst (λ (ps : List Piece). Back (more f i xs) (xs ++ y ∷ []) ps) (append-nil (w xs y)) (bind-back (λ x. give (xs ++ x ∷ [])) (b .0) give-back) in
+      subst (λ (ps : List Piece). Back (more f i xs) (xs ++ y ∷ []) ps) (append-nil (w xs y))
+      (bind-back (λ x. give (xs ++ x ∷ [])) (b .0) give-back) in
       subst (λ (zs : List A). Back (more f i xs >>= counted (i + 1) (length ys) (more f)) zs (w xs y ++ spellEach w (xs ++ y ∷ []) ys))
       (append-assoc xs (y ∷ []) ys)
       (bind-back (counted (i + 1) (length ys) (more f)) one (from-back (i + 1) (xs ++ y ∷ []) ys (b .1)))
@@ -107,7 +110,8 @@ then-back-to k {ps = ps} {qs = qs} g h = record {
       (h .law s (at + total ps) (holds-rest s at ps qs p));
 }
 
-pub back-to-give : {A B : Type 0} {r : Reader A} (f : A → B) {a : A} {ps : List Piece} → BackTo r a ps → BackTo (r >>= λ x. give (f x)) (f a) ps
+pub back-to-give : {A B : Type 0} {r : Reader A} (f : A → B) {a : A} {ps : List Piece} → BackTo r a ps
+    → BackTo (r >>= λ x. give (f x)) (f a) ps
 back-to-give f g = record { law = λ s at p. rw (g .law s at p) }
 
 pub leftOver-back : (most : ℕ) (other : Reader Fill) {x : Fill} → x .count ≤ most → BackTo (leftOver most other) x (spellFill x)
@@ -118,7 +122,8 @@ leftOver-back most other {x} h = record {
       rw (c, le-leb (x .count) most h, p .0, add-zero);
 }
 
-pub inside-back : {A : Type 0} (n short : ℕ) {r : Reader A} {a : A} {ps : List Piece} → BackTo r a ps → total ps ≡ n → Back (inside n short r) a ps
+pub inside-back : {A : Type 0} (n short : ℕ) {r : Reader A} {a : A} {ps : List Piece} → BackTo r a ps → total ps ≡ n
+    → Back (inside n short r) a ps
 inside-back n short {r} g e = record {
   law = λ s at end h l. inside-there n short r s at end (omega arith) ∙ rw (← e, g .law s at h);
 }

@@ -66,21 +66,26 @@ module _ {A : Type 0} (r : Reader A) (w : A → List Piece) (ok : A → Type 0) 
       → r t 0 end′ ≡ got a (total (w a))
   read-back s t end next end′ a e h l =
       let u = used s end next a e in
-      let v : r s 0 (total (w a)) ≡ got a (total (w a)) = subst (λ (m : ℕ). r s 0 m ≡ got a m) (u .1) (g .stable s 0 end next next a (omega arith) e (omega arith)) in
+      let v : r s 0 (total (w a)) ≡ got a (total (w a)) =
+      subst (λ (m : ℕ). r s 0 m ≡ got a m) (u .1) (g .stable s 0 end next next a (omega arith) e (omega arith)) in
       let z : r t 0 (total (w a)) ≡ got a (total (w a)) =
       sym (g .local s t 0 (total (w a)) (omega arith) (λ i l k. holds-same s t 0 (w a) (u .0) h i l (omega arith))) ∙ v in
       g .stable t 0 (total (w a)) (total (w a)) end′ a (omega arith) z l
 
   pub spelling-read : (s : List ℕ) (end next : ℕ) (a : A) → r s 0 end ≡ got a next → r (packed (w a)) 0 (total (w a)) ≡ got a (total (w a))
   spelling-read s end next a e =
-      read-back s (packed (w a)) end next (total (w a)) a e (packed-holds (w a) (holds-sized s 0 (w a) (used s end next a e .0))) (omega arith)
+      read-back s (packed (w a)) end next (total (w a)) a e (packed-holds (w a) (holds-sized s 0 (w a) (used s end next a e .0)))
+      (omega arith)
 
   -- what is written of what was read: the bits that were used, and zero bits to the end of the last byte
   pub gives-back : (s : List ℕ) (end next : ℕ) (a : A) → r s 0 end ≡ got a next
       → (next ≡ total (w a)) × ((i : ℕ) → i < next → bitAt (packed (w a)) i ≡ bitAt s i)
   gives-back s end next a e =
-      let u = used s end next a e in
-      (u .1, λ i l. holds-same (packed (w a)) s 0 (w a) (packed-holds (w a) (holds-sized s 0 (w a) (u .0))) (u .0) i (omega arith) (omega arith))
+      let u = used s end next a e in (
+        u .1,
+        λ i l. holds-same (packed (w a)) s 0 (w a) (packed-holds (w a) (holds-sized s 0 (w a) (u .0))) (u .0) i (omega arith)
+            (omega arith),
+      )
 
   -- a payload that ends within its last byte, with zero bits there, comes back whole
   pub whole-back : (s : List ℕ) (next : ℕ) (a : A) → r s 0 (8 * length s) ≡ got a next → AreBytes s → length s ≡ bytesFor next
@@ -111,7 +116,8 @@ module _ {A : Type 0} (r : Reader A) (w : A → List Piece) (ok : A → Type 0) 
     pub can : (a : A) → writable same r w a ≡ true → ReadTo r a
     can a e =
         let l = packed-length (w a) in
-        let b = g .stable (packed (w a)) 0 (total (w a)) (total (w a)) (8 * length (packed (w a))) a (omega arith) (written-read a e) (omega arith) in
+        let b = g .stable (packed (w a)) 0 (total (w a)) (total (w a)) (8 * length (packed (w a))) a (omega arith) (written-read a e)
+        (omega arith) in
         (packed (w a), packed-bytes (w a), total (w a), whole-is r (packed (w a)) (total (w a)) a b (omega arith))
 
     pub cannot : (a : A) → writable same r w a ≡ false → ReadTo r a → ⊥

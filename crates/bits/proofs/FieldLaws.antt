@@ -31,7 +31,8 @@ field-cases n s at end =
       | no d ↦ let g : end < at + n = omega arith in inr (g, sym (is-short n s at end g))
     ]
 
-pub field-taken : (n : ℕ) (s : List ℕ) (at end next a : ℕ) → field n s at end ≡ got a next → (at + n ≤ end) × (a ≡ bitsFrom s at n) × (next ≡ at + n)
+pub field-taken : (n : ℕ) (s : List ℕ) (at end next a : ℕ) → field n s at end ≡ got a next
+    → (at + n ≤ end) × (a ≡ bitsFrom s at n) × (next ≡ at + n)
 field-taken n s at end next a e =
     elim (field-cases n s at end) [
       | inl w ↦ (w .0, (let q = w .1 in cc), (let q = w .1 in cc))

@@ -35,9 +35,12 @@ pub four-bytes : (s : List ℕ) (i : ℕ) → getD s i 0 < 256 → getD s (i + 1
     → bitsFrom s (8 * i) 32 ≡ ((getD s i 0 * 256 + getD s (i + 1) 0) * 256 + getD s (i + 2) 0) * 256 + getD s (i + 3) 0
 four-bytes s i b₀ b₁ b₂ b₃ =
     let a₀ = byte-is s i b₀ in
-    let a₁ : bitsFrom s (8 * i + 8) 8 ≡ getD s (i + 1) 0 = ap (λ (p : ℕ). bitsFrom s p 8) (let q : 8 * i + 8 ≡ 8 * (i + 1) = omega arith in q) ∙ byte-is s (i + 1) b₁ in
-    let a₂ : bitsFrom s (8 * i + 16) 8 ≡ getD s (i + 2) 0 = ap (λ (p : ℕ). bitsFrom s p 8) (let q : 8 * i + 16 ≡ 8 * (i + 2) = omega arith in q) ∙ byte-is s (i + 2) b₂ in
-    let a₃ : bitsFrom s (8 * i + 24) 8 ≡ getD s (i + 3) 0 = ap (λ (p : ℕ). bitsFrom s p 8) (let q : 8 * i + 24 ≡ 8 * (i + 3) = omega arith in q) ∙ byte-is s (i + 3) b₃ in
+    let a₁ : bitsFrom s (8 * i + 8) 8 ≡ getD s (i + 1) 0 =
+    ap (λ (p : ℕ). bitsFrom s p 8) (let q : 8 * i + 8 ≡ 8 * (i + 1) = omega arith in q) ∙ byte-is s (i + 1) b₁ in
+    let a₂ : bitsFrom s (8 * i + 16) 8 ≡ getD s (i + 2) 0 =
+    ap (λ (p : ℕ). bitsFrom s p 8) (let q : 8 * i + 16 ≡ 8 * (i + 2) = omega arith in q) ∙ byte-is s (i + 2) b₂ in
+    let a₃ : bitsFrom s (8 * i + 24) 8 ≡ getD s (i + 3) 0 =
+    ap (λ (p : ℕ). bitsFrom s p 8) (let q : 8 * i + 24 ≡ 8 * (i + 3) = omega arith in q) ∙ byte-is s (i + 3) b₃ in
     omega (arith, bitsFrom-split s (8 * i) 8 8, bitsFrom-split s (8 * i) 16 8, bitsFrom-split s (8 * i) 24 8)
 
 -- a run within four bytes
@@ -51,7 +54,8 @@ pub one-shl : (w n : ℕ) → n < w → 1 * 2 ^ n % 2 ^ w ≡ 2 ^ n
 one-shl w n h = shl-exact {a = 1} 1 n w (omega arith) (omega arith) ∙ omega arith
 
 -- what the code computes of four bytes
-pub word-run : (s : List ℕ) (at n : ℕ) {a b c d : ℕ} → n ≤ 20 → (a ≡ getD s (at / 8) 0) × (a < 256) → (b ≡ getD s (at / 8 + 1) 0) × (b < 256)
+pub word-run : (s : List ℕ) (at n : ℕ) {a b c d : ℕ} → n ≤ 20 → (a ≡ getD s (at / 8) 0) × (a < 256)
+    → (b ≡ getD s (at / 8 + 1) 0) × (b < 256)
     → (c ≡ getD s (at / 8 + 2) 0) × (c < 256) → (d ≡ getD s (at / 8 + 3) 0) × (d < 256)
     → (((a * 256 + b) * 256 + c) * 256 + d) / 2 ^ (32 - (at % 8 + n)) % (1 * 2 ^ n % 2 ^ 64) ≡ bitsFrom s at n
 word-run s at n {a} {b} {c} {d} h p q r t =

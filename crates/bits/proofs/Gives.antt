@@ -26,7 +26,8 @@ so-gives f g = record { law = λ s at end next a e. f a (g .law s at end next a 
 pub give-gives : {A : Type 0} {P : A → Type 0} {a : A} → P a → Gives P (give a)
 give-gives {P = P} p = record { law = λ s at end next b e. subst P (same-value e) p }
 
-pub bind-gives : {A B : Type 0} {P : A → Type 0} {Q : B → Type 0} {r : Reader A} {k : A → Reader B} → Gives P r → ((a : A) → P a → Gives Q (k a)) → Gives Q (r >>= k)
+pub bind-gives : {A B : Type 0} {P : A → Type 0} {Q : B → Type 0} {r : Reader A} {k : A → Reader B} → Gives P r
+    → ((a : A) → P a → Gives Q (k a)) → Gives Q (r >>= k)
 bind-gives {r = r} {k = k} g f = record {
   law = λ s at end next b e.
       let w = split (r s at end) k s end next b e in
@@ -37,10 +38,12 @@ bind-gives {r = r} {k = k} g f = record {
 pub then-gives : {A B : Type 0} {Q : B → Type 0} (r : Reader A) {k : A → Reader B} → ((a : A) → Gives Q (k a)) → Gives Q (r >>= k)
 then-gives r f = bind-gives {P = λ a. Unit {0}} {r = r} (record { law = λ s at end next a e. tt }) (λ a p. f a)
 
-pub map-gives : {A B : Type 0} {P : A → Type 0} {Q : B → Type 0} {r : Reader A} (f : A → B) → Gives P r → ((a : A) → P a → Q (f a)) → Gives Q (r >>= λ a. give (f a))
+pub map-gives : {A B : Type 0} {P : A → Type 0} {Q : B → Type 0} {r : Reader A} (f : A → B) → Gives P r → ((a : A) → P a → Q (f a))
+    → Gives Q (r >>= λ a. give (f a))
 map-gives f g h = bind-gives g λ a p. give-gives (h a p)
 
-pub pick-gives : {A : Type 0} {P : A → Type 0} (b : Bool) {r q : Reader A} → (b ≡ true → Gives P r) → (b ≡ false → Gives P q) → Gives P (pick b r q)
+pub pick-gives : {A : Type 0} {P : A → Type 0} (b : Bool) {r q : Reader A} → (b ≡ true → Gives P r) → (b ≡ false → Gives P q)
+    → Gives P (pick b r q)
 pick-gives true f g = f refl
 pick-gives false f g = g refl
 
@@ -72,7 +75,8 @@ pub listed-gives : {A : Type 0} (P : A → Type 0) (f : List A → Reader A) →
 unfolding listed
 listed-gives {A} P f g n =
     so-gives (λ xs o. (o .0 ∙ zero-add n, o .1)) (counted-gives Known {f = more f}
-    (λ i xs o. map-gives (λ x. xs ++ x ∷ []) (g xs) λ x p. (rw (length-append xs (x ∷ [])) (omega arith), every-append P xs (x ∷ []) (o .1) (p, tt)))
+    (λ i xs o. map-gives (λ x. xs ++ x ∷ []) (g xs) λ x p.
+    (rw (length-append xs (x ∷ [])) (omega arith), every-append P xs (x ∷ []) (o .1) (p, tt)))
     0 n [] (refl, tt))
   where
     Known : ℕ → List A → Type 0

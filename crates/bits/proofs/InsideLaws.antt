@@ -59,7 +59,8 @@ leftOver-filling most other f = record {
   full = λ s at end next x h e.
       elim (decLe (end - at) most) [
         | yes d ↦
-            let g : got (record { count = end - at; value = bitsFrom s at (end - at) }) (at + (end - at)) ≡ got x next = rw (le-leb _ _ d) at e in
+            let g : got (record { count = end - at; value = bitsFrom s at (end - at) }) (at + (end - at)) ≡ got x next =
+            rw (le-leb _ _ d) at e in
             let q : at + (end - at) ≡ next = cc in
             omega arith
         | no d ↦ f .full s at end next x h (rw (lt-leb (end - at) most (omega arith)) at e)
@@ -77,7 +78,8 @@ renumbered-got short (refused n p) next a e = never e
 
 module _ {A : Type 0} (n short : ℕ) (r : Reader A) where
   -- what an accepted part has read
-  pub inside-got : (s : List ℕ) (at end next : ℕ) (a : A) → inside n short r s at end ≡ got a next → (at + n ≤ end) × (r s at (at + n) ≡ got a next)
+  pub inside-got : (s : List ℕ) (at end next : ℕ) (a : A) → inside n short r s at end ≡ got a next
+      → (at + n ≤ end) × (r s at (at + n) ≡ got a next)
   unfolding inside
   inside-got s at end next a e =
       elim (decLe (at + n) end) [
@@ -96,7 +98,8 @@ module _ {A : Type 0} (n short : ℕ) (r : Reader A) where
 
   pub inside-lawful : Filling r → Lawful (inside n short r)
   inside-lawful f = record {
-    within = λ s at end next a h e. let w = inside-got s at end next a e in let u = f .full s at (at + n) next a (omega arith) (w .1) in omega arith;
+    within = λ s at end next a h e. let w = inside-got s at end next a e in let u =
+        f .full s at (at + n) next a (omega arith) (w .1) in omega arith;
     local = λ s t at end h q.
         elim (decLe (at + n) end) [
           | yes d ↦

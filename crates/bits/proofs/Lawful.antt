@@ -84,7 +84,8 @@ module _ {A B : Type 0} (r : Reader A) (k : A → Reader B) (gr : Lawful r) (gk 
       let u = gr .within s at end m a h e in
       gk a .local s t m end (u .1) (λ i l g. q i (omega arith) g)
 
-  bind-stable : (s : List ℕ) (at end next end′ : ℕ) (b : B) → at ≤ end → (r >>= k) s at end ≡ got b next → next ≤ end′ → (r >>= k) s at end′ ≡ got b next
+  bind-stable : (s : List ℕ) (at end next end′ : ℕ) (b : B) → at ≤ end → (r >>= k) s at end ≡ got b next → next ≤ end′
+      → (r >>= k) s at end′ ≡ got b next
   bind-stable s at end next end′ b h e l =
       let w = split (r s at end) k s end next b e in
       let u = gr .within s at end (w .1) (w .0) h (w .2) in

@@ -34,9 +34,11 @@ module _ {S : Type 0} (f : ℕ → S → Reader S) where
 module _ {A : Type 0} (f : List A → Reader A) where
   pub listed-lawful : ((xs : List A) → Lawful (f xs)) → (n : ℕ) → Lawful (listed n f)
   unfolding listed
-  listed-lawful g n = counted-lawful (more f) (λ i xs. bind-lawful (f xs) (λ x. give (xs ++ x ∷ [])) (g xs) (λ x. give-lawful (xs ++ x ∷ []))) 0 n []
+  listed-lawful g n = counted-lawful (more f)
+      (λ i xs. bind-lawful (f xs) (λ x. give (xs ++ x ∷ [])) (g xs) (λ x. give-lawful (xs ++ x ∷ []))) 0 n []
 
-  pub more-got : (i : ℕ) (xs : List A) (x : A) (s : List ℕ) (at end m : ℕ) → f xs s at end ≡ got x m → more f i xs s at end ≡ got (xs ++ x ∷ []) m
+  pub more-got : (i : ℕ) (xs : List A) (x : A) (s : List ℕ) (at end m : ℕ) → f xs s at end ≡ got x m
+      → more f i xs s at end ≡ got (xs ++ x ∷ []) m
   more-got i xs x s at end m e = rw e
 
   pub more-refused : (i : ℕ) (xs : List A) (s : List ℕ) (at end r p : ℕ) → f xs s at end ≡ refused r p → more f i xs s at end ≡ refused r p

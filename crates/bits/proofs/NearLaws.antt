@@ -1,4 +1,5 @@
--- Readers that look no further than N bits: where that many are there, the end does not count. Kept by the ways of putting readers together.
+-- Readers that look no further than N bits: where that many are there, the end does not count. Kept by the ways of putting readers
+-- together.
 -- Assumes nothing.
 use Prim.Native.Nat.{ℕ, zero, suc, _+_, _-_, _≤_}
 use mathlib.Core.Path.{_≡_, refl, sym, _∙_, ap}
@@ -19,7 +20,8 @@ pub record Near {A : Type 0} (n : ℕ) (r : Reader A) : Type 0 where
   pub reach : (s : List ℕ) (at end next : ℕ) (a : A) → at + n ≤ end → r s at end ≡ got a next → next ≤ at + n
 
 -- of a lawful reader the first half is enough
-pub lawful-near : {A : Type 0} (n : ℕ) (r : Reader A) → Lawful r → ((s : List ℕ) (at end end′ : ℕ) → at + n ≤ end → at + n ≤ end′ → r s at end ≡ r s at end′) → Near n r
+pub lawful-near : {A : Type 0} (n : ℕ) (r : Reader A) → Lawful r
+    → ((s : List ℕ) (at end end′ : ℕ) → at + n ≤ end → at + n ≤ end′ → r s at end ≡ r s at end′) → Near n r
 lawful-near n r g f = record {
   same = f;
   reach = λ s at end next a h e. g .within s at (at + n) next a (omega arith) (f s at (at + n) end (omega arith) h ∙ e) .1;
@@ -53,7 +55,8 @@ pick-near false g h = h
 -- one after another, with what is known of the first one's value
 module _ {A B : Type 0} (m n : ℕ) (r : Reader A) (k : A → Reader B) (P : A → Type 0) (g : Near m r)
     (p : (s : List ℕ) (at end next : ℕ) (a : A) → r s at end ≡ got a next → P a) (f : (a : A) → P a → Near n (k a)) where
-  bind-same : (s : List ℕ) (at end end′ : ℕ) → at + (m + n) ≤ end → at + (m + n) ≤ end′ → (x : Answer A) → r s at end ≡ x → (r >>= k) s at end ≡ (r >>= k) s at end′
+  bind-same : (s : List ℕ) (at end end′ : ℕ) → at + (m + n) ≤ end → at + (m + n) ≤ end′ → (x : Answer A) → r s at end ≡ x
+      → (r >>= k) s at end ≡ (r >>= k) s at end′
   bind-same s at end end′ h l (got a b) e =
       let q : r s at end′ ≡ got a b = g .same s at end′ end (omega arith) (omega arith) ∙ e in
       let o = g .reach s at end b a (omega arith) e in
@@ -86,16 +89,21 @@ times-le zero k n h = omega arith
 times-le (suc j) zero n h = absurd (omega arith)
 times-le (suc j) (suc k) n h = let l = times-le j k n (omega arith) in omega arith
 
-counted-near : {S : Type 0} (n : ℕ) (f : ℕ → S → Reader S) → ((i : ℕ) (x : S) → Near n (f i x)) → (i k : ℕ) (x : S) → Near (times k n) (counted i k f x)
+counted-near : {S : Type 0} (n : ℕ) (f : ℕ → S → Reader S) → ((i : ℕ) (x : S) → Near n (f i x)) → (i k : ℕ) (x : S)
+    → Near (times k n) (counted i k f x)
 unfolding counted
 counted-near n f g i zero x = give-near 0 x
 counted-near n f g i (suc k) x = bind-near n (times k n) (f i x) (counted (i + 1) k f) (g i x) (counted-near n f g (i + 1) k)
 
-pub listed-near : {A : Type 0} (n : ℕ) (f : List A → Reader A) → ((xs : List A) → Near n (f xs)) → (j k : ℕ) → j ≤ k → Near (times k n) (listed j f)
+pub listed-near : {A : Type 0} (n : ℕ) (f : List A → Reader A) → ((xs : List A) → Near n (f xs)) → (j k : ℕ) → j ≤ k
+    → Near (times k n) (listed j f)
 unfolding listed
 listed-near n f g j k h =
-    wider (counted-near n (more f) (λ i xs. wider (bind-near n 0 (f xs) (λ x. give (xs ++ x ∷ [])) (g xs) (λ x. give-near 0 (xs ++ x ∷ []))) (omega arith)) 0 j []) (times-le j k n h)
+    wider (counted-near n (more f)
+    (λ i xs. wider (bind-near n 0 (f xs) (λ x. give (xs ++ x ∷ [])) (g xs) (λ x. give-near 0 (xs ++ x ∷ []))) (omega arith)) 0 j [])
+    (times-le j k n h)
 
 pub inside-near : {A : Type 0} (n short : ℕ) (r : Reader A) → Filling r → Near n (inside n short r)
 unfolding inside
-inside-near n short r f = lawful-near n (inside n short r) (inside-lawful n short r f) (λ s at end end′ h k. rw (le-leb _ _ h, le-leb _ _ k))
+inside-near n short r f =
+    lawful-near n (inside n short r) (inside-lawful n short r f) (λ s at end end′ h k. rw (le-leb _ _ h, le-leb _ _ k))

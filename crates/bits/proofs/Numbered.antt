@@ -70,7 +70,8 @@ module _ (among : ℕ → Bool) where
   pick-numbered true r q g h = g
   pick-numbered false r q g h = h
 
-  pub counted-numbered : {S : Type 0} (f : ℕ → S → Reader S) → ((i : ℕ) (x : S) → Numbered (f i x)) → (i n : ℕ) (x : S) → Numbered (counted i n f x)
+  pub counted-numbered : {S : Type 0} (f : ℕ → S → Reader S) → ((i : ℕ) (x : S) → Numbered (f i x)) → (i n : ℕ) (x : S)
+      → Numbered (counted i n f x)
   unfolding counted
   counted-numbered f g i zero x = give-numbered x
   counted-numbered f g i (suc n) x = bind-numbered (f i x) (counted (i + 1) n f) (g i x) (counted-numbered f g (i + 1) n)
@@ -93,11 +94,13 @@ module _ (among : ℕ → Bool) where
   leftOver-numbered most other g = record { law = λ s at end n p e. go s at end n p (leb (end - at) most) e }
     where
       go : (s : List ℕ) (at end n p : ℕ) (b : Bool)
-          → pick b (got (record { count = end - at; value = bitsFrom s at (end - at) }) (at + (end - at))) (other s at end) ≡ refused n p → among n ≡ true
+          → pick b (got (record { count = end - at; value = bitsFrom s at (end - at) }) (at + (end - at))) (other s at end)
+          ≡ refused n p → among n ≡ true
       go s at end n p true e = not-refused e
       go s at end n p false e = g .law s at end n p e
 
-  pub inside-numbered : {A : Type 0} (k short : ℕ) (r : Reader A) → among 10 ≡ true → among short ≡ true → Numbered r → Numbered (inside k short r)
+  pub inside-numbered : {A : Type 0} (k short : ℕ) (r : Reader A) → among 10 ≡ true → among short ≡ true → Numbered r
+      → Numbered (inside k short r)
   unfolding inside
   inside-numbered {A} k short r o q g = record { law = λ s at end n p e. go s at n p (leb (at + k) end) e }
     where
@@ -107,7 +110,8 @@ module _ (among : ℕ → Bool) where
 
       within : (s : List ℕ) (at n p : ℕ) (x : Answer A) → r s at (at + k) ≡ x → renumbered short x ≡ refused n p → among n ≡ true
       within s at n p (got a m) w e = not-refused e
-      within s at n p (refused m l) w e = is-among {A = A} (pick (eqb m 10) short m) n l p (other m (eqb m 10) (g .law s at (at + k) m l w)) e
+      within s at n p (refused m l) w e =
+          is-among {A = A} (pick (eqb m 10) short m) n l p (other m (eqb m 10) (g .law s at (at + k) m l w)) e
 
       go : (s : List ℕ) (at n p : ℕ) (b : Bool) → pick b (renumbered short (r s at (at + k))) (refused 10 at) ≡ refused n p → among n ≡ true
       go s at n p true e = within s at n p (r s at (at + k)) refl e
@@ -122,6 +126,7 @@ module _ (among : ℕ → Bool) where
       go at n p false e = is-among {A = A} 12 n at p o e
 
   -- a whole payload may be 12 besides
-  pub whole-numbered : {A : Type 0} (r : Reader A) → among 12 ≡ true → Numbered r → (s : List ℕ) (n p : ℕ) → whole r s ≡ refused n p → among n ≡ true
+  pub whole-numbered : {A : Type 0} (r : Reader A) → among 12 ≡ true → Numbered r → (s : List ℕ) (n p : ℕ) → whole r s ≡ refused n p
+      → among n ≡ true
   unfolding whole
   whole-numbered r o g s n p e = bind-numbered r ended g (λ a. ended-numbered a o) .law s 0 _ n p e

@@ -6,7 +6,8 @@ use mathlib.Core.List.{List, [], _∷_, _++_, append-assoc, append-nil}
 use native.Mathlib.Omega.{arith}
 use native.Mathlib.Numerals.{add-one}
 use lib.ListN.{length, take, drop, set, getD, replicate, length-append}
-use lib.Seq.{paste, paste-zero, paste-suc, length-paste, take-all, take-at, drop-append-add, drop-drop, length-take-le, set-split, append-snoc}
+use lib.Seq.{paste, paste-zero, paste-suc, length-paste, take-all, take-at, drop-append-add, drop-drop, length-take-le, set-split}
+use lib.Seq.{append-snoc}
 use Rattle.bits.specs.Bytes.{over}
 
 -- a whole copy is what was put over
@@ -34,7 +35,8 @@ over-then s at k xs ys e h =
     rw (take-at p q k f, past, append-assoc (take at s) xs ys)
 
 -- one more copied at the front
-pub paste-front : {A : Type 0} (s xs : List A) (i : ℕ) (z : A) → i < length xs → i < length s → set (paste s 0 xs i) i (getD xs i z) ≡ paste s 0 xs (i + 1)
+pub paste-front : {A : Type 0} (s xs : List A) (i : ℕ) (z : A) → i < length xs → i < length s
+    → set (paste s 0 xs i) i (getD xs i z) ≡ paste s 0 xs (i + 1)
 paste-front s xs i z h k =
     let here : i ≡ 0 + i = omega arith in
     let next : suc i ≡ i + 1 = omega arith in
@@ -63,10 +65,14 @@ unfolding over
 put-one s at x h = (set-split s at x h ∙ rw (add-one, append-snoc (take at s) x (drop (suc at) s)), refl)
 
 -- what is put right after n bytes makes one longer run
-pub put-next : {t u : List ℕ} (s : List ℕ) (at : ℕ) (xs : List ℕ) (n : ℕ) (ys : List ℕ) (m : ℕ) → Put s at xs n t → Put t (at + n) ys m u → at + (n + m) ≤ length s
+pub put-next : {t u : List ℕ} (s : List ℕ) (at : ℕ) (xs : List ℕ) (n : ℕ) (ys : List ℕ) (m : ℕ) → Put s at xs n t
+    → Put t (at + n) ys m u → at + (n + m) ≤ length s
     → Put s at (xs ++ ys) (n + m) u
-put-next {t} {u} s at xs n ys m (e, l) (f, k) h =
-    (f ∙ ap (λ (z : List ℕ). over z (at + n) ys) e ∙ over-then s at (at + n) xs ys (omega arith) (omega arith), rw (length-append xs ys, l, k))
+put-next {t} {u} s at xs n ys m (e, l) (f, k) h = (
+  f ∙ ap (λ (z : List ℕ). over z (at + n) ys) e
+      ∙ over-then s at (at + n) xs ys (omega arith) (omega arith),
+  rw (length-append xs ys, l, k),
+)
 
 -- the same bytes, in other words
 pub put-as : {t : List ℕ} (s : List ℕ) (at : ℕ) (xs ys : List ℕ) (n m : ℕ) → Put s at xs n t → xs ≡ ys → n ≡ m → Put s at ys m t

@@ -18,25 +18,30 @@ use Rattle.bits.proofs.PutLaws.{Sized, replaced-lt, put-all-length, put
 
 pub packed-holds : (ps : List Piece) → Sized ps → Holds (packed ps) 0 ps
 unfolding packed
-packed-holds ps z = put-all-holds (replicate (bytesFor (total ps)) 0) 0 ps z (omega (arith, length-replicate {A = ℕ} (bytesFor (total ps)) 0))
+packed-holds ps z = put-all-holds (replicate (bytesFor (total ps)) 0) 0 ps z
+    (omega (arith, length-replicate {A = ℕ} (bytesFor (total ps)) 0))
 
 pub packed-length : (ps : List Piece) → length (packed ps) ≡ bytesFor (total ps)
 unfolding packed
 packed-length ps = put-all-length (replicate (bytesFor (total ps)) 0) 0 ps ∙ length-replicate {A = ℕ} (bytesFor (total ps)) 0
 
 -- a scratch array that holds more
-pub scratch : (n : ℕ) (ps : List Piece) → bytesFor (total ps) ≤ n → putAll (replicate n 0) 0 ps ≡ packed ps ++ replicate (n - bytesFor (total ps)) 0
+pub scratch : (n : ℕ) (ps : List Piece) → bytesFor (total ps) ≤ n
+    → putAll (replicate n 0) 0 ps ≡ packed ps ++ replicate (n - bytesFor (total ps)) 0
 unfolding packed
 scratch n ps h =
     let e : n ≡ bytesFor (total ps) + (n - bytesFor (total ps)) = omega arith in
     ap (λ (l : List ℕ). putAll l 0 ps)
-    (ap (λ (m : ℕ). replicate m (let z : ℕ = 0 in z)) e ∙ sym (replicate-append-replicate {A = ℕ} (bytesFor (total ps)) (n - bytesFor (total ps)) 0))
+    (ap (λ (m : ℕ). replicate m (let z : ℕ = 0 in z)) e
+    ∙ sym (replicate-append-replicate {A = ℕ} (bytesFor (total ps)) (n - bytesFor (total ps)) 0))
     ∙ put-all-append (replicate (bytesFor (total ps)) 0) (replicate (n - bytesFor (total ps)) 0) 0 ps
     (omega (arith, length-replicate {A = ℕ} (bytesFor (total ps)) 0))
 
 -- the first bytes of the scratch array are the spelling's
-pub scratch-bytes : (n : ℕ) (ps : List Piece) → bytesFor (total ps) ≤ n → take (bytesFor (total ps)) (putAll (replicate n 0) 0 ps) ≡ packed ps
-scratch-bytes n ps h = rw (scratch n ps h) (take-at (packed ps) (replicate (n - bytesFor (total ps)) 0) (bytesFor (total ps)) (packed-length ps))
+pub scratch-bytes : (n : ℕ) (ps : List Piece) → bytesFor (total ps) ≤ n
+    → take (bytesFor (total ps)) (putAll (replicate n 0) 0 ps) ≡ packed ps
+scratch-bytes n ps h = rw (scratch n ps h)
+    (take-at (packed ps) (replicate (n - bytesFor (total ps)) 0) (bytesFor (total ps)) (packed-length ps))
 
 abbrev pub AreBytes : List ℕ → Type 0
 AreBytes s = (i : ℕ) → getD s i 0 < 256
@@ -45,7 +50,8 @@ set-bytes : (s : List ℕ) (i b : ℕ) → b < 2 → AreBytes s → AreBytes (se
 set-bytes s i b l a j =
     elim (ℕ-discrete j (i / 8)) [
       | yes e ↦ elim (decLt (i / 8) (length s)) [
-        | yes m ↦ rw (e, getD-set-same s (i / 8) (replaced (getD s (i / 8) 0) (7 - i % 8) b) 0 m) (replaced-lt (getD s (i / 8) 0) (7 - i % 8) b (a (i / 8)) (omega arith) l)
+        | yes m ↦ rw (e, getD-set-same s (i / 8) (replaced (getD s (i / 8) 0) (7 - i % 8) b) 0 m)
+            (replaced-lt (getD s (i / 8) 0) (7 - i % 8) b (a (i / 8)) (omega arith) l)
         | no m ↦ rw (set-out s (i / 8) (replaced (getD s (i / 8) 0) (7 - i % 8) b) (omega arith)) (a j)
       ]
       | no d ↦ rw (getD-set-other s (i / 8) j (replaced (getD s (i / 8) 0) (7 - i % 8) b) 0 d) (a j)
@@ -85,4 +91,5 @@ packed-pad ps i h =
 -- bytes are settled by their bits
 pub bytes-ext : (s t : List ℕ) → AreBytes s → AreBytes t → length s ≡ length t → ((i : ℕ) → bitAt s i ≡ bitAt t i) → s ≡ t
 bytes-ext s t a b l e =
-    ext-getD 0 s t l (λ i h. sym (byte-is s i (a i)) ∙ bitsFrom-same s t (8 * i) 8 (8 * i + 8) (omega arith) (λ j p q. e j) ∙ byte-is t i (b i))
+    ext-getD 0 s t l (λ i h. sym (byte-is s i (a i)) ∙ bitsFrom-same s t (8 * i) 8 (8 * i + 8) (omega arith) (λ j p q. e j)
+    ∙ byte-is t i (b i))

@@ -27,7 +27,8 @@ module _ {A : Type 0} (n : ℕ) (z : A) where
       let q : n - i - 1 ≡ n - (i + 1) = omega arith in
       record {
         long = length-set xs i x ∙ f .long;
-        rest = drop-set-lt (i + 1) xs i x (omega arith) ∙ sym (drop-drop 1 i xs) ∙ ap (drop 1) (f .rest) ∙ drop-one (n - i) ∙ ap (λ (k : ℕ). replicate k z) q;
+        rest = drop-set-lt (i + 1) xs i x (omega arith) ∙ sym (drop-drop 1 i xs) ∙ ap (drop 1) (f .rest) ∙ drop-one (n - i)
+            ∙ ap (λ (k : ℕ). replicate k z) q;
       }
 
   -- one element more
@@ -43,4 +44,5 @@ module _ {A : Type 0} (n : ℕ) (z : A) where
 
   -- the last that was read
   pub last-set : (i : ℕ) (xs : List A) (x d : A) → i < n → Filled i xs → getD (take (i + 1) (set xs i x)) (i + 1 - 1) d ≡ x
-  last-set i xs x d h f = let q : i + 1 - 1 ≡ i = omega arith in rw (q, taken-set i xs x h f) (getD-at (take i xs) x [] d i (taken-long i xs (omega arith) f))
+  last-set i xs x d h f = let q : i + 1 - 1 ≡ i =
+      omega arith in rw (q, taken-set i xs x h f) (getD-at (take i xs) x [] d i (taken-long i xs (omega arith) f))

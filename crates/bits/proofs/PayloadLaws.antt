@@ -52,5 +52,6 @@ module _ {A : Type 0} (r : Reader A) where
       let u = g .within s 0 (8 * length s) next a (omega arith) (w .0) in
       let l : length (take k s) ≡ k = length-take-le k s (omega arith) in
       let c = g .cut s 0 (8 * length s) next (8 * k) a (omega arith) (w .0) (omega arith) h in
-      let q : r (take k s) 0 (8 * k) ≡ refused 10 (c .0) = g .local (take k s) s 0 (8 * k) (omega arith) (λ i a b. bit-take s k i b) ∙ c .1 in
+      let q : r (take k s) 0 (8 * k) ≡ refused 10 (c .0) = g .local (take k s) s 0 (8 * k) (omega arith) (λ i a b. bit-take s k i b)
+      ∙ c .1 in
       (c .0, whole-refused (take k s) 10 (c .0) (ap (λ (m : ℕ). r (take k s) 0 (8 * m)) l ∙ q))

@@ -51,14 +51,16 @@ replaced-other x k b j h n =
       | no l ↦
           let e : j ≡ (k + 1) + (j - k - 1) = omega arith in
           let u : replaced x k b / 2 ^ (k + 1) ≡ x / 2 ^ (k + 1) =
-          sym (shr-shr (replaced x k b) k 1) ∙ ap (λ (z : ℕ). z / 2 ^ 1) (replaced-high x k b) ∙ (let q : (x / 2 ^ k / 2 * 2 + b) / 2 ≡ x / 2 ^ k / 2 = omega arith in q) ∙ shr-shr x k 1 in
+          sym (shr-shr (replaced x k b) k 1) ∙ ap (λ (z : ℕ). z / 2 ^ 1) (replaced-high x k b)
+          ∙ (let q : (x / 2 ^ k / 2 * 2 + b) / 2 ≡ x / 2 ^ k / 2 = omega arith in q) ∙ shr-shr x k 1 in
           rw (e, ← shr-shr (replaced x k b) (k + 1) (j - k - 1), ← shr-shr x (k + 1) (j - k - 1), u)
     ]
 
 pub set-bit-same : (s : List ℕ) (i b : ℕ) → i < 8 * length s → b < 2 → bitAt (setBit s i b) i ≡ b
 unfolding bitAt
 set-bit-same s i b h l =
-    rw (getD-set-same s (i / 8) (replaced (getD s (i / 8) 0) (7 - i % 8) b) 0 (omega arith)) (replaced-same (getD s (i / 8) 0) (7 - i % 8) b l)
+    rw (getD-set-same s (i / 8) (replaced (getD s (i / 8) 0) (7 - i % 8) b) 0 (omega arith))
+    (replaced-same (getD s (i / 8) 0) (7 - i % 8) b l)
 
 pub set-bit-other : (s : List ℕ) (i b j : ℕ) → b < 2 → j ≢ i → bitAt (setBit s i b) j ≡ bitAt s j
 unfolding bitAt
@@ -67,7 +69,8 @@ set-bit-other s i b j l n =
       | yes e ↦ elim (decLt (i / 8) (length s)) [
         | yes m ↦
             let d : 7 - j % 8 ≢ 7 - i % 8 = λ q. n (omega arith) in
-            rw (e, getD-set-same s (i / 8) (replaced (getD s (i / 8) 0) (7 - i % 8) b) 0 m) (replaced-other (getD s (i / 8) 0) (7 - i % 8) b (7 - j % 8) l d)
+            rw (e, getD-set-same s (i / 8) (replaced (getD s (i / 8) 0) (7 - i % 8) b) 0 m)
+            (replaced-other (getD s (i / 8) 0) (7 - i % 8) b (7 - j % 8) l d)
         | no m ↦ rw (set-out s (i / 8) (replaced (getD s (i / 8) 0) (7 - i % 8) b) (omega arith))
       ]
       | no d ↦ rw (getD-set-other s (i / 8) (j / 8) (replaced (getD s (i / 8) 0) (7 - i % 8) b) 0 d)
@@ -77,7 +80,8 @@ pub put-length : (s : List ℕ) (at v n : ℕ) → length (put s at v n) ≡ len
 unfolding put
 put-length s at v zero = refl
 put-length s at v (suc n) =
-    length-set (put s at (v / 2) n) ((at + n) / 8) (replaced (getD (put s at (v / 2) n) ((at + n) / 8) 0) (7 - (at + n) % 8) (v % 2)) ∙ put-length s at (v / 2) n
+    length-set (put s at (v / 2) n) ((at + n) / 8) (replaced (getD (put s at (v / 2) n) ((at + n) / 8) 0) (7 - (at + n) % 8) (v % 2))
+    ∙ put-length s at (v / 2) n
 
 pub put-other : (s : List ℕ) (at v n j : ℕ) → (j < at) ⊎ (at + n ≤ j) → bitAt (put s at v n) j ≡ bitAt s j
 unfolding put
@@ -120,14 +124,16 @@ Sized (p ∷ ps) = (p .value < 2 ^ p .size) × Sized ps
 
 pub holds-sized : (s : List ℕ) (at : ℕ) (ps : List Piece) → Holds s at ps → Sized ps
 holds-sized s at [] h = tt
-holds-sized s at (p ∷ ps) h = (subst (λ (v : ℕ). v < 2 ^ p .size) (h .0) (bitsFrom-lt s at (p .size)), holds-sized s (at + p .size) ps (h .1))
+holds-sized s at (p ∷ ps) h =
+    (subst (λ (v : ℕ). v < 2 ^ p .size) (h .0) (bitsFrom-lt s at (p .size)), holds-sized s (at + p .size) ps (h .1))
 
 pub put-all-holds : (s : List ℕ) (at : ℕ) (ps : List Piece) → Sized ps → at + total ps ≤ 8 * length s → Holds (putAll s at ps) at ps
 unfolding putAll
 put-all-holds s at [] z h = tt
 put-all-holds s at (p ∷ ps) z h =
     let t = put s at (p .value) (p .size) in (
-      bitsFrom-same _ _ at (p .size) (at + p .size) (omega arith) (λ i a b. put-all-other (put s at (p .value) (p .size)) (at + p .size) ps i (inl b))
+      bitsFrom-same _ _ at (p .size) (at + p .size) (omega arith)
+          (λ i a b. put-all-other (put s at (p .value) (p .size)) (at + p .size) ps i (inl b))
           ∙ put-same s at (p .value) (p .size) (omega arith) (z .0),
       put-all-holds (put s at (p .value) (p .size)) (at + p .size) ps (z .1) (omega (arith, put-length s at (p .value) (p .size))),
     )
@@ -167,13 +173,15 @@ taken-le x k =
 -- more bytes behind are as they were
 pub set-bit-append : (s t : List ℕ) (i b : ℕ) → i < 8 * length s → setBit (s ++ t) i b ≡ setBit s i b ++ t
 set-bit-append s t i b h =
-    rw (List·getD-append s t 0 (i / 8) (omega arith)) (set-append-left s t (i / 8) (replaced (getD s (i / 8) 0) (7 - i % 8) b) (omega arith))
+    rw (List·getD-append s t 0 (i / 8) (omega arith))
+    (set-append-left s t (i / 8) (replaced (getD s (i / 8) 0) (7 - i % 8) b) (omega arith))
 
 pub put-append : (s t : List ℕ) (at v n : ℕ) → at + n ≤ 8 * length s → put (s ++ t) at v n ≡ put s at v n ++ t
 unfolding put
 put-append s t at v zero h = refl
 put-append s t at v (suc n) h =
-    rw (put-append s t at (v / 2) n (omega arith)) (set-bit-append (put s at (v / 2) n) t (at + n) (v % 2) (omega (arith, put-length s at (v / 2) n)))
+    rw (put-append s t at (v / 2) n (omega arith))
+    (set-bit-append (put s at (v / 2) n) t (at + n) (v % 2) (omega (arith, put-length s at (v / 2) n)))
 
 pub put-all-append : (s t : List ℕ) (at : ℕ) (ps : List Piece) → at + total ps ≤ 8 * length s → putAll (s ++ t) at ps ≡ putAll s at ps ++ t
 unfolding putAll

@@ -59,7 +59,8 @@ respelt f g = record {
       (x .0, f a (x .4) ∙ rw (x .1), x .2, x .3, x .4);
 }
 
-pub give-spelt : {A : Type 0} {a : A} {before : List Piece} {w : A → List Piece} {ok : A → Type 0} → w a ≡ before → ok a → Spelt (give a) before w ok
+pub give-spelt : {A : Type 0} {a : A} {before : List Piece} {w : A → List Piece} {ok : A → Type 0} → w a ≡ before → ok a
+    → Spelt (give a) before w ok
 give-spelt {A} {a} {before} {w} {ok} e o = record {
   law = λ s at end next b q.
       let u : a ≡ b = cc in
@@ -74,7 +75,8 @@ refusing-spelt = record { law = λ s at end next b q. never q }
 pub refuse-spelt : {A : Type 0} {n : ℕ} {before : List Piece} {w : A → List Piece} {ok : A → Type 0} → Spelt {A = A} (refuse n) before w ok
 refuse-spelt = refusing-spelt
 
-pub refuseAt-spelt : {A : Type 0} (n place : ℕ) {before : List Piece} {w : A → List Piece} {ok : A → Type 0} → Spelt {A = A} (refuseAt n place) before w ok
+pub refuseAt-spelt : {A : Type 0} (n place : ℕ) {before : List Piece} {w : A → List Piece} {ok : A → Type 0}
+    → Spelt {A = A} (refuseAt n place) before w ok
 unfolding refuseAt
 refuseAt-spelt n place = refusing-spelt
 
@@ -115,7 +117,8 @@ expecting-spelt n t {r} g = record {
       (y .0, y .1, y .2, y .3, (y .4, x .1));
 }
 
-pub oneField-spelt : {A : Type 0} {r : Reader A} {before : List Piece} {w : A → List Piece} {ok : A → Type 0} → Spelt r before w ok → Spelt (oneField r) before w ok
+pub oneField-spelt : {A : Type 0} {r : Reader A} {before : List Piece} {w : A → List Piece} {ok : A → Type 0} → Spelt r before w ok
+    → Spelt (oneField r) before w ok
 unfolding oneField
 oneField-spelt {r = r} g = record { law = λ s at end next a e. g .law s at end next a (placed-got (r s at end) at next a e) }
 
@@ -126,7 +129,8 @@ pick-spelt false g h = h refl
 
 -- a loop, each turn of which spells on from what the state has spelled; what is known of the state goes by the turn
 pub counted-spelt : {S : Type 0} {f : ℕ → S → Reader S} {w : S → List Piece} (ok : ℕ → S → Type 0)
-    → ((i : ℕ) (x : S) → ok i x → Spelt (f i x) (w x) w (ok (i + 1))) → (i n : ℕ) (x : S) → ok i x → Spelt (counted i n f x) (w x) w (ok (i + n))
+    → ((i : ℕ) (x : S) → ok i x → Spelt (f i x) (w x) w (ok (i + 1))) → (i n : ℕ) (x : S) → ok i x
+    → Spelt (counted i n f x) (w x) w (ok (i + n))
 unfolding counted
 counted-spelt ok g i zero x o = give-spelt refl (rw add-zero o)
 counted-spelt {S} {f} {w} ok g i (suc n) x o = record {
@@ -163,19 +167,22 @@ pub listed-spelt : {A : Type 0} {f : List A → Reader A} {w : List A → A → 
 unfolding listed
 listed-spelt {A} {f} {w} P g n =
     told refl (λ xs o. (o .0 ∙ zero-add n, o .1)) (counted-spelt {f = more f} (λ i xs. (length xs ≡ i) × Every P xs)
-    (λ i xs o. bind-spelt (g xs) λ x p. give-spelt (spell-snoc w [] xs x) (rw (length-append xs (x ∷ [])) (omega arith), every-append P xs (x ∷ []) (o .1) (p, tt)))
+    (λ i xs o. bind-spelt (g xs) λ x p.
+    give-spelt (spell-snoc w [] xs x) (rw (length-append xs (x ∷ [])) (omega arith), every-append P xs (x ∷ []) (o .1) (p, tt)))
     0 n [] (refl, tt))
 
 abbrev pub Filled : ℕ → Fill → Type 0
 Filled most x = (x .count ≤ most) × (x .value < 2 ^ x .count)
 
-pub leftOver-spelt : (most : ℕ) {other : Reader Fill} → Spelt other [] spellFill (Filled most) → Spelt (leftOver most other) [] spellFill (Filled most)
+pub leftOver-spelt : (most : ℕ) {other : Reader Fill} → Spelt other [] spellFill (Filled most)
+    → Spelt (leftOver most other) [] spellFill (Filled most)
 unfolding leftOver
 leftOver-spelt most {other} g = record {
   law = λ s at end next x e.
       elim (decLe (end - at) most) [
         | yes d ↦
-            let q : got (record { count = end - at; value = bitsFrom s at (end - at) }) (at + (end - at)) ≡ got x next = rw (le-leb _ _ d) at e in
+            let q : got (record { count = end - at; value = bitsFrom s at (end - at) }) (at + (end - at)) ≡ got x next =
+            rw (le-leb _ _ d) at e in
             let y : _≡_ {A = Fill} (record { count = end - at; value = bitsFrom s at (end - at) }) x = cc in
             let c : end - at ≡ x .count = ap (λ (z : Fill). z .count) y in
             let v : bitsFrom s at (end - at) ≡ x .value = ap (λ (z : Fill). z .value) y in

@@ -37,7 +37,8 @@ never true false = refl
 never false l = refl
 
 module _ (buf : List ℕ) (start end index lines factors books : ℕ) where
-  narrowed-by : (b : Bool) → ltb index 256 ≡ b → channel buf start end (pick b index 0) lines factors books ≡ channel buf start end index lines factors books
+  narrowed-by : (b : Bool) → ltb index 256 ≡ b
+      → channel buf start end (pick b index 0) lines factors books ≡ channel buf start end index lines factors books
   unfolding channel promise.channelCallRefusal
   narrowed-by true e = refl
   narrowed-by false e =
@@ -56,7 +57,8 @@ module _ (buf : List ℕ) (start end index : ℕ) (lines : List ℤ) (factors bo
   abbrev pub Ends : ℕ → List ℤ → List ℕ → List ℕ → List ℕ → Type 0
   Ends n l f b told =
       (n ≡ readingOf call .number)
-      × ((l ≡ linesAfter call lines) × ((f ≡ factorsAfter call factors) × ((b ≡ booksAfter call books) × (told ≡ channelAnswerAfter call answer))))
+      × ((l ≡ linesAfter call lines)
+      × ((f ≡ factorsAfter call factors) × ((b ≡ booksAfter call books) × (told ≡ channelAnswerAfter call answer))))
 
   stopped : (n : ℕ) → n ≡ callRefusal (length buf) start end 17 (length answer) → eqb n 0 ≡ false → call ≡ refused n 0
   unfolding channelCall
@@ -77,7 +79,8 @@ module _ (buf : List ℕ) (start end index : ℕ) (lines : List ℤ) (factors bo
     unfolding channelCall
     asked = rw (e, ei) (sym (narrowed buf start end index (length lines) (length factors) (length books)))
 
-    module _ (r : Reading) (l : List ℤ) (f b : List ℕ) (er : r ≡ readingOf read) (el : l ≡ linesAfter read lines) (ef : f ≡ factorsAfter read factors)
+    module _ (r : Reading) (l : List ℤ) (f b : List ℕ) (er : r ≡ readingOf read) (el : l ≡ linesAfter read lines)
+        (ef : f ≡ factorsAfter read factors)
         (eb : b ≡ booksAfter read books) where
       pub stream-refused : (r .number ≡ 0 → ⊥) → Ends (r .number) l f b answer
       stream-refused h =

@@ -42,7 +42,8 @@ fn put_reading(answer: &mut [u8], r: Reading)
     put_groups(answer, groups);
 }
 
-// The channel stream in the bytes from start to end of a buffer, for a sampling index: the lent outputs and the lent answer get its numbers.
+// The channel stream in the bytes from start to end of a buffer, for a sampling index: the lent outputs and the lent answer get its
+// numbers.
 #[no_mangle]
 pub extern "C" fn oarcradler_read_channel(
     buf: &[u8],
@@ -54,11 +55,17 @@ pub extern "C" fn oarcradler_read_channel(
     books: &mut [u8],
     answer: &mut [u8],
 ) -> u32
-    ensures { λ r. ⌜ r ≡ readingOf (channelCall (now (buf .entry)) start end index (length (now (lines .entry))) (length (now (factors .entry))) (length (now (books .entry))) (length (now (answer .entry)))) .number ⌝ }
-    ensures { λ r. ⌜ now (lines .exit) ≡ linesAfter (channelCall (now (buf .entry)) start end index (length (now (lines .entry))) (length (now (factors .entry))) (length (now (books .entry))) (length (now (answer .entry)))) (now (lines .entry)) ⌝ }
-    ensures { λ r. ⌜ now (factors .exit) ≡ factorsAfter (channelCall (now (buf .entry)) start end index (length (now (lines .entry))) (length (now (factors .entry))) (length (now (books .entry))) (length (now (answer .entry)))) (now (factors .entry)) ⌝ }
-    ensures { λ r. ⌜ now (books .exit) ≡ booksAfter (channelCall (now (buf .entry)) start end index (length (now (lines .entry))) (length (now (factors .entry))) (length (now (books .entry))) (length (now (answer .entry)))) (now (books .entry)) ⌝ }
-    ensures { λ r. ⌜ now (answer .exit) ≡ channelAnswerAfter (channelCall (now (buf .entry)) start end index (length (now (lines .entry))) (length (now (factors .entry))) (length (now (books .entry))) (length (now (answer .entry)))) (now (answer .entry)) ⌝ }
+    ensures { λ r. ⌜ r ≡ readingOf (channelCall (now (buf .entry)) start end index (length (now (lines .entry)))
+        (length (now (factors .entry))) (length (now (books .entry))) (length (now (answer .entry)))) .number ⌝ }
+    ensures { λ r. ⌜ now (lines .exit) ≡ linesAfter (channelCall (now (buf .entry)) start end index (length (now (lines .entry)))
+        (length (now (factors .entry))) (length (now (books .entry))) (length (now (answer .entry)))) (now (lines .entry)) ⌝ }
+    ensures { λ r. ⌜ now (factors .exit) ≡ factorsAfter (channelCall (now (buf .entry)) start end index (length (now (lines .entry)))
+        (length (now (factors .entry))) (length (now (books .entry))) (length (now (answer .entry)))) (now (factors .entry)) ⌝ }
+    ensures { λ r. ⌜ now (books .exit) ≡ booksAfter (channelCall (now (buf .entry)) start end index (length (now (lines .entry)))
+        (length (now (factors .entry))) (length (now (books .entry))) (length (now (answer .entry)))) (now (books .entry)) ⌝ }
+    ensures { λ r. ⌜ now (answer .exit) ≡ channelAnswerAfter (channelCall (now (buf .entry)) start end index
+        (length (now (lines .entry))) (length (now (factors .entry))) (length (now (books .entry))) (length (now (answer .entry))))
+        (now (answer .entry)) ⌝ }
 {
     let number = call_refusal(buf.len(), start as usize, end as usize, 17, answer.len());
     if number != 0 {

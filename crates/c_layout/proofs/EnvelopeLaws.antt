@@ -20,7 +20,8 @@ getD-there (x ∷ xs) (suc i) a b h = getD-there xs i a b (omega arith)
 
 pub envelopes-more : (iid icc : List Row) (phases : List Phases) (e : ℕ) (a b : Row) (p : Phases)
     → e < length iid → e < length icc → e < length phases
-    → envelopesBytes iid icc phases e ++ envelopeBytes (getD iid e a) (getD icc e b) (getD phases e p) ≡ envelopesBytes iid icc phases (e + 1)
+    → envelopesBytes iid icc phases e ++ envelopeBytes (getD iid e a) (getD icc e b) (getD phases e p)
+    ≡ envelopesBytes iid icc phases (e + 1)
 unfolding envelopesBytes
 envelopes-more iid icc phases e a b p h g k =
     rw (add-one, getD-there iid e a noRow h, getD-there icc e b noRow g, getD-there phases e p noPhases k)

@@ -23,7 +23,8 @@ pub raised-fits : (x : ℤ) → SFits w8 x → SFits w16 (toZ w16 (ofZ w16 (toZ 
 raised-fits x f = rw (wide x f) (fits 384 (abs-add x (pos 256) 128 256 (natAbs-le x (f .sfits)) (omega arith)) (omega arith))
 
 -- a negative number and 256
-pub raised : (x : ℤ) → SFits w8 x → ltZ x (pos 0) ≡ true → toZ w16 (ofZ w16 (toZ w16 (ofZ w16 (toZ w8 (ofZ w8 x))) +ℤ pos 256)) ≡ pos (ofZ w8 x)
+pub raised : (x : ℤ) → SFits w8 x → ltZ x (pos 0) ≡ true
+    → toZ w16 (ofZ w16 (toZ w16 (ofZ w16 (toZ w8 (ofZ w8 x))) +ℤ pos 256)) ≡ pos (ofZ w8 x)
 raised x f e = toZ-ofZ w16 _ (raised-fits x f) ∙ rw (wide x f) (up x e (f .sfits))
 
 -- a number that is not below 0 is its byte

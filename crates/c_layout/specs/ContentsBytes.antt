@@ -1,4 +1,5 @@
--- An answered stereo payload as 582 bytes: the bits it used as a word; the header's fields; class, envelope count and borders; the extension's
+-- An answered stereo payload as 582 bytes: the bits it used as a word; the header's fields; class, envelope count and borders; the
+-- extension's
 -- fields and fill bits; then of each of four envelopes a time flag and 34 indices for IID, ICC, IPD and OPD.
 use Prim.Native.Nat.{ℕ, zero, suc, _+_}
 use mathlib.Core.List.{List, [], _∷_, _++_}
@@ -20,12 +21,14 @@ headerBytes h =
 
 abbrev pub frameBytes : Frame → List ℕ
 frameBytes f =
-    byteOf (f .class) ∷ byteOf (f .envelopes) ∷ byteOf (getD (f .borders) 0 0) ∷ byteOf (getD (f .borders) 1 0) ∷ byteOf (getD (f .borders) 2 0)
+    byteOf (f .class) ∷ byteOf (f .envelopes) ∷ byteOf (getD (f .borders) 0 0) ∷ byteOf (getD (f .borders) 1 0) ∷ byteOf
+    (getD (f .borders) 2 0)
     ∷ byteOf (getD (f .borders) 3 0) ∷ []
 
 abbrev pub extensionBytes : Extension → List ℕ
 extensionBytes x =
-    byteOf (x .there) ∷ byteOf (x .size) ∷ byteOf (x .esc) ∷ byteOf (x .part .body .phase) ∷ byteOf (x .part .count) ∷ byteOf (x .part .value) ∷ []
+    byteOf (x .there) ∷ byteOf (x .size) ∷ byteOf (x .esc) ∷ byteOf (x .part .body .phase) ∷ byteOf (x .part .count) ∷ byteOf
+    (x .part .value) ∷ []
 
 -- what stands before the envelopes
 unfoldable pub answerHead : ℕ → Contents → List ℕ

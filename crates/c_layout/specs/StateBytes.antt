@@ -14,7 +14,8 @@ use Rattle.c_layout.specs.Indices.{indicesAt, numbered}
 -- what stands before the records
 unfoldable pub stateHead : State → List ℕ
 stateHead st =
-    flagByte (st .setup .iid) ∷ flagByte (st .setup .icc) ∷ flagByte (st .setup .ext) ∷ byteOf (st .setup .iidmode) ∷ byteOf (st .setup .iccmode)
+    flagByte (st .setup .iid) ∷ flagByte (st .setup .icc) ∷ flagByte (st .setup .ext) ∷ byteOf (st .setup .iidmode) ∷ byteOf
+    (st .setup .iccmode)
     ∷ flagByte (st .instep) ∷ []
 
 unfoldable pub recordBytes : Record → List ℕ

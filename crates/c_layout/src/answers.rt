@@ -4,7 +4,8 @@ ghost use mathlib.Core.List.{[], _∷_};
 ghost use Prim.Native.Nat.{_+_, _≤_};
 ghost use lib.ListN.{length};
 ghost use Rattle.bits.specs.Bytes.{byteOf, over};
-ghost use Rattle.c_layout.specs.ContentsBytes.{headerBytes, frameBytes, answerHead, envelopeBytes, envelopesBytes, answerBytes, rowAt, rowsAt, phasesAt, allPhasesAt, headerAt, frameAt, extensionAt, contentsAt};
+ghost use Rattle.c_layout.specs.ContentsBytes.{headerBytes, frameBytes, answerHead, envelopeBytes, envelopesBytes, answerBytes, rowAt};
+ghost use Rattle.c_layout.specs.ContentsBytes.{rowsAt, phasesAt, allPhasesAt, headerAt, frameAt, extensionAt, contentsAt};
 use crate::indices;
 use bits::bytes;
 use stereo::Body;
@@ -205,7 +206,8 @@ fn put_head(out: &mut [u8], bits: usize, contents: Contents)
 // An envelope is put at a place.
 fn put_envelope(out: &mut [u8], at: usize, iid: Row, icc: Row, phases: Phases)
     requires { ⌜ at + 140 ≤ length (now out) ⌝ }
-    ensures { λ _. ⌜ (now (out .exit) ≡ over (now (out .entry)) at (envelopeBytes iid icc phases)) × (length (envelopeBytes iid icc phases) ≡ 140) ⌝ }
+    ensures { λ _. ⌜ (now (out .exit) ≡ over (now (out .entry)) at (envelopeBytes iid icc phases))
+        × (length (envelopeBytes iid icc phases) ≡ 140) ⌝ }
 {
     let levels = iid.indices;
     indices::put_numbered(out, at, iid.time, levels);
@@ -220,7 +222,8 @@ fn put_envelope(out: &mut [u8], at: usize, iid: Row, icc: Row, phases: Phases)
 // The four envelopes are put where they stand.
 fn put_envelopes(out: &mut [u8], iid: [Row; 4], icc: [Row; 4], phases: [Phases; 4])
     requires { ⌜ 582 ≤ length (now out) ⌝ }
-    ensures { λ _. ⌜ (now (out .exit) ≡ over (now (out .entry)) 22 (envelopesBytes iid icc phases 4)) × (length (envelopesBytes iid icc phases 4) ≡ 560) ⌝ }
+    ensures { λ _. ⌜ (now (out .exit) ≡ over (now (out .entry)) 22 (envelopesBytes iid icc phases 4))
+        × (length (envelopesBytes iid icc phases 4) ≡ 560) ⌝ }
 {
     let mut e = 0;
     while e < 4 {

@@ -21,7 +21,8 @@ after (suc j) b e =
     let none : suc j ≡ 0 = rw (ne-eqb (suc j) 0 (λ z. absurd (omega arith))) at e in
     absurd (omega arith)
 
-pub stereo-passed : (s : List ℕ) (size start end room : ℕ) → stereoCallRefusal s size start end room ≡ 0 → (582 ≤ room) × (soundBytes s ≡ true) × (start ≤ end) × (end ≤ size)
+pub stereo-passed : (s : List ℕ) (size start end room : ℕ) → stereoCallRefusal s size start end room ≡ 0
+    → (582 ≤ room) × (soundBytes s ≡ true) × (start ≤ end) × (end ≤ size)
 unfolding stereoCallRefusal
 stereo-passed s size start end room e =
     let p = after (callRefusal size start end 582 room) (soundBytes s) e in

@@ -25,7 +25,8 @@ stereoReading s buf start end = readBytes (stateAt s) (range buf start end)
 -- the number that comes back
 unfoldable pub stereoNumber : List ℕ → List ℕ → ℕ → ℕ → ℕ → ℕ
 stereoNumber s buf start end room =
-    pick (eqb (stereoCallRefusal s (length buf) start end room) 0) (stereoReading s buf start end .number) (stereoCallRefusal s (length buf) start end room)
+    pick (eqb (stereoCallRefusal s (length buf) start end room) 0) (stereoReading s buf start end .number)
+    (stereoCallRefusal s (length buf) start end room)
 
 -- the state afterwards: the next one where the payload is accepted; the mark out of step and no other byte touched where the payload is
 -- refused; untouched where the call is
@@ -38,4 +39,5 @@ stereoStateAfter s buf start end room =
 -- the answer afterwards
 unfoldable pub stereoAnswerAfter : List ℕ → List ℕ → ℕ → ℕ → List ℕ → List ℕ
 stereoAnswerAfter s buf start end answer =
-    answered (stereoNumber s buf start end (length answer)) (answerBytes (stereoReading s buf start end .bits) (stereoReading s buf start end .contents)) answer
+    answered (stereoNumber s buf start end (length answer))
+    (answerBytes (stereoReading s buf start end .bits) (stereoReading s buf start end .contents)) answer

@@ -55,7 +55,8 @@ pub extern "C" fn oarcradler_read_stereo(
     answer: &mut [u8],
 ) -> u32
     ensures { λ r. ⌜ r ≡ stereoNumber (now (state .entry)) (now (buf .entry)) start end (length (now (answer .entry))) ⌝ }
-    ensures { λ r. ⌜ now (state .exit) ≡ stereoStateAfter (now (state .entry)) (now (buf .entry)) start end (length (now (answer .entry))) ⌝ }
+    ensures { λ r. ⌜ now (state .exit) ≡ stereoStateAfter (now (state .entry)) (now (buf .entry)) start end
+        (length (now (answer .entry))) ⌝ }
     ensures { λ r. ⌜ now (answer .exit) ≡ stereoAnswerAfter (now (state .entry)) (now (buf .entry)) start end (now (answer .entry)) ⌝ }
 {
     let first = start as usize;

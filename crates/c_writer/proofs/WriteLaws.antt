@@ -11,7 +11,8 @@ use Rattle.stereo_writer.specs.Writing.{writtenOver}
 use Rattle.bits.specs.Bytes.{wordOf, over}
 use Rattle.c_layout.specs.StateBytes.{stateBytes, stateAt}
 use Rattle.c_layout.specs.ContentsBytes.{contentsAt}
-use Rattle.c_writer.specs.WriteStereo.{writeCallRefusal, stereoWriting, writeNumber, writeStateAfter, writeContentsAfter, writeOutputAfter}
+use Rattle.c_writer.specs.WriteStereo.{writeCallRefusal, stereoWriting, writeNumber, writeStateAfter, writeContentsAfter}
+use Rattle.c_writer.specs.WriteStereo.{writeOutputAfter}
 
 module _ (s contents out : List ℕ) where
   -- the number that comes back, and what the lent state, contents and output hold then
@@ -29,14 +30,16 @@ module _ (s contents out : List ℕ) where
 
   module _ (e : writeCallRefusal s (length contents) ≡ 0) where
     pub contents-refused : (stereoWriting s contents (length out) .number ≡ 0 → ⊥)
-        → Ends (stereoWriting s contents (length out) .number) s contents (writtenOver (stereoWriting s contents (length out)) (stateAt s) (contentsAt contents) out)
+        → Ends (stereoWriting s contents (length out) .number) s contents
+        (writtenOver (stereoWriting s contents (length out)) (stateAt s) (contentsAt contents) out)
     unfolding writeNumber writeStateAfter writeContentsAfter writeOutputAfter
     contents-refused h =
         let no : eqb (stereoWriting s contents (length out) .number) 0 ≡ false = ne-eqb _ 0 h in
         (rw e, (rw (e, no), (rw (e, no), rw e)))
 
     pub accepted : stereoWriting s contents (length out) .number ≡ 0
-        → Ends 0 (over s 0 (stateBytes (stereoWriting s contents (length out) .state))) (over contents 0 (wordOf (stereoWriting s contents (length out) .bits)))
+        → Ends 0 (over s 0 (stateBytes (stereoWriting s contents (length out) .state)))
+        (over contents 0 (wordOf (stereoWriting s contents (length out) .bits)))
         (writtenOver (stereoWriting s contents (length out)) (stateAt s) (contentsAt contents) out)
     unfolding writeNumber writeStateAfter writeContentsAfter writeOutputAfter
     accepted h =

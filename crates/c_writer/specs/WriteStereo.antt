@@ -35,4 +35,5 @@ writeContentsAfter s contents room = answered (writeNumber s contents room) (wor
 -- the output afterwards
 unfoldable pub writeOutputAfter : List ℕ → List ℕ → List ℕ → List ℕ
 writeOutputAfter s contents out =
-    pick (eqb (writeCallRefusal s (length contents)) 0) (writtenOver (stereoWriting s contents (length out)) (stateAt s) (contentsAt contents) out) out
+    pick (eqb (writeCallRefusal s (length contents)) 0)
+    (writtenOver (stereoWriting s contents (length out)) (stateAt s) (contentsAt contents) out) out

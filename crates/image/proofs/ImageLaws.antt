@@ -92,7 +92,8 @@ header-sound s e = go (soundImage s) refl (knownIndex (indexOf s)) e
   where
     go : (a : Bool) → soundImage s ≡ a → (b : Bool)
         → pick a (pick b (record { number = 0; count = countOf s; index = indexOf s }) (refusedHeader 3)) (refusedHeader 5) .number ≡ 0
-        → Sound s × (pick a (pick b (record { number = 0; count = countOf s; index = indexOf s }) (refusedHeader 3)) (refusedHeader 5) .count ≡ countOf s)
+        → Sound s × (pick a (pick b (record { number = 0; count = countOf s; index = indexOf s }) (refusedHeader 3))
+        (refusedHeader 5) .count ≡ countOf s)
     go true q true e = (sound-facts s q, refl)
     go true q false e = absurd (omega arith)
     go false q b e = absurd (omega arith)
@@ -103,7 +104,12 @@ small-by i true e k = ltb-true i 8 e
 small-by i false e k =
     let h = ltb-false i 8 e in
     absurd (true-false (knownIndex i) k
-    (rw (ne-eqb i 3 (λ z. absurd (omega arith)), ne-eqb i 4 (λ z. absurd (omega arith)), ne-eqb i 6 (λ z. absurd (omega arith)), ne-eqb i 7 (λ z. absurd (omega arith)))))
+    (rw (
+      ne-eqb i 3 (λ z. absurd (omega arith)),
+      ne-eqb i 4 (λ z. absurd (omega arith)),
+      ne-eqb i 6 (λ z. absurd (omega arith)),
+      ne-eqb i 7 (λ z. absurd (omega arith)),
+    )))
 
 pub known-small : (i : ℕ) → knownIndex i ≡ true → i < 8
 known-small i k = small-by i (ltb i 8) refl k

@@ -100,7 +100,8 @@ struct Turn {
 
 // The row of a stereo payload that fills a part, and the state after it.
 fn stereo_turn(part: &[u8], state: State) -> Turn
-    ensures { λ r. ⌜ (r .row .number ∷ r .row .first ∷ r .row .second ∷ r .row .bits ∷ [] ≡ stereoRow (stereoIn state (now (part .entry)))) × (r .state ≡ stereoIn state (now (part .entry)) .state) ⌝ }
+    ensures { λ r. ⌜ (r .row .number ∷ r .row .first ∷ r .row .second ∷ r .row .bits ∷ []
+        ≡ stereoRow (stereoIn state (now (part .entry)))) × (r .state ≡ stereoIn state (now (part .entry)) .state) ⌝ }
 {
     let r = stereo_reader::read(state, part, 0, part.len());
     let contents = r.contents;
@@ -118,7 +119,8 @@ fn stereo_turn(part: &[u8], state: State) -> Turn
 // The turn of the k-th payload, an even one a channel stream and an odd one a stereo payload.
 fn turn_of(part: &[u8], k: usize, index: u8, state: State) -> Turn
     requires { ⌜ length (now part) ≤ 65535 ⌝ }
-    ensures { λ r. ⌜ (r .row .number ∷ r .row .first ∷ r .row .second ∷ r .row .bits ∷ [] ≡ rowFrom state index k (now (part .entry))) × (r .state ≡ stateFrom state k (now (part .entry))) ⌝ }
+    ensures { λ r. ⌜ (r .row .number ∷ r .row .first ∷ r .row .second ∷ r .row .bits ∷ [] ≡ rowFrom state index k (now (part .entry)))
+        × (r .state ≡ stateFrom state k (now (part .entry))) ⌝ }
 {
     if k % 2 == 0 {
         let row = channel_row(part, index);
@@ -129,7 +131,8 @@ fn turn_of(part: &[u8], k: usize, index: u8, state: State) -> Turn
 
 // The rows of an image whose header has this count and index.
 fn fill_rows(image: &[u8], count: usize, index: u8, rows: &mut [usize])
-    requires { ⌜ (length (now image) ≤ 65535) × (count ≤ 1024) × (4 * count ≤ length (now rows)) × (headerOf (now image) ≡ record { number = 0; count = count; index = index }) ⌝ }
+    requires { ⌜ (length (now image) ≤ 65535) × (count ≤ 1024) × (4 * count ≤ length (now rows))
+        × (headerOf (now image) ≡ record { number = 0; count = count; index = index }) ⌝ }
     ensures { λ _. ⌜ now (rows .exit) ≡ over (now (rows .entry)) 0 (rowsOf (now (image .entry)) count) ⌝ }
 {
     let mut state = states::fresh();
@@ -148,7 +151,8 @@ fn fill_rows(image: &[u8], count: usize, index: u8, rows: &mut [usize])
 
 // The outline of an image: its header, and in the lent rows four numbers of each payload.
 pub fn read_image(image: &[u8], rows: &mut [usize]) -> Header
-    ensures { λ r. ⌜ (r ≡ outlineOf (now (image .entry)) (length (now (rows .entry)))) × (now (rows .exit) ≡ rowsAfter (now (image .entry)) (now (rows .entry))) ⌝ }
+    ensures { λ r. ⌜ (r ≡ outlineOf (now (image .entry)) (length (now (rows .entry))))
+        × (now (rows .exit) ≡ rowsAfter (now (image .entry)) (now (rows .entry))) ⌝ }
 {
     let header = image::read_header(image);
     if header.number != 0 {

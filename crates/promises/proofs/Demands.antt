@@ -30,7 +30,8 @@ use Rattle.promises.specs.Run.{stereo}
 use Rattle.promises.proofs.Turns.{steady}
 
 -- demand 1, of a channel stream: no bit outside the range counts, and no cut goes unseen
-pub channel-outside : (buf other : List ℕ) (start end index lines factors books : ℕ) → length buf ≡ length other → range buf start end ≡ range other start end
+pub channel-outside : (buf other : List ℕ) (start end index lines factors books : ℕ) → length buf ≡ length other
+    → range buf start end ≡ range other start end
     → channel buf start end index lines factors books ≡ channel other start end index lines factors books
 channel-outside = only-the-range
 
@@ -39,7 +40,8 @@ pub channel-cut : (index : ℕ) (bytes : List ℕ) (next : ℕ) (x : Stream) (k 
 channel-cut = cut-is-10
 
 -- and of a stereo payload
-pub outside : (st : State) (b b′ : List ℕ) (start end start′ end′ : ℕ) → inBuffer start end (length b) ≡ true → inBuffer start′ end′ (length b′) ≡ true
+pub outside : (st : State) (b b′ : List ℕ) (start end start′ end′ : ℕ) → inBuffer start end (length b) ≡ true
+    → inBuffer start′ end′ (length b′) ≡ true
     → range b start end ≡ range b′ start′ end′ → readFrom st b start end ≡ readFrom st b′ start′ end′
 outside = outside-counts-not
 
@@ -49,10 +51,12 @@ cut = read-cut
 
 -- demand 2: what is written reads back the same, and what was read is written back to its bits
 pub written-reads : (st : State) (c : Contents) (room : ℕ) → writing st c room .number ≡ 0
-    → readBytes st (packed (spelling (from st) c)) ≡ record { number = 0; bits = writing st c room .bits; contents = c; state = writing st c room .state }
+    → readBytes st (packed (spelling (from st) c))
+    ≡ record { number = 0; bits = writing st c room .bits; contents = c; state = writing st c room .state }
 written-reads = write-read
 
-pub read-writes : (st : State) (s : List ℕ) (room : ℕ) → sound st ≡ true → readBytes st s .number ≡ 0 → bytesFor (readBytes st s .bits) ≤ room
+pub read-writes : (st : State) (s : List ℕ) (room : ℕ) → sound st ≡ true → readBytes st s .number ≡ 0
+    → bytesFor (readBytes st s .bits) ≤ room
     → (writing st (readBytes st s .contents) room ≡ record { number = 0; bits = readBytes st s .bits; state = readBytes st s .state })
     × ((i : ℕ) → i < readBytes st s .bits → bitAt (packed (spelling (from st) (readBytes st s .contents))) i ≡ bitAt s i)
 read-writes = read-write
@@ -60,7 +64,8 @@ read-writes = read-write
 -- in a run from the fresh state 4 does not arise, and 1 only where a range is outside its buffer
 pub own-refusals : (es : List Event) (b : List ℕ) (start end : ℕ) → inBuffer start end (length b) ≡ true
     → turn stereo (after stereo (stereo .fresh) es) (given b start end)
-    ≡ concluded stereo (after stereo (stereo .fresh) es) (stereo .read (origin stereo (after stereo (stereo .fresh) es)) (range b start end))
+    ≡ concluded stereo (after stereo (stereo .fresh) es)
+    (stereo .read (origin stereo (after stereo (stereo .fresh) es)) (range b start end))
 own-refusals = own-turn stereo steady
 
 pub reports-taken : (es : List Event)

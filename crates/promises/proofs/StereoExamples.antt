@@ -32,15 +32,39 @@ kept mode xs = recordOf mode (padded 34 (pos 0) xs)
 
 -- ICC enabled in a mode, with its record
 abbrev withIcc : ℕ → Record → State
-withIcc mode h = record { setup = record { iid = false; icc = true; ext = false; iidmode = 7; iccmode = mode }; iid = none; icc = h; ipd = none; opd = none; instep = true }
+withIcc mode h = record {
+  setup = record { iid = false; icc = true; ext = false; iidmode = 7; iccmode = mode };
+  iid = none;
+  icc =
+      h;
+  ipd = none;
+  opd = none;
+  instep = true;
+}
 
 -- IID enabled in a mode, with a record
 abbrev withIid : ℕ → Record → State
-withIid mode h = record { setup = record { iid = true; icc = false; ext = false; iidmode = mode; iccmode = 7 }; iid = h; icc = none; ipd = none; opd = none; instep = true }
+withIid mode h = record {
+  setup = record { iid = true; icc = false; ext = false; iidmode = mode; iccmode = 7 };
+  iid = h;
+  icc =
+      none;
+  ipd = none;
+  opd = none;
+  instep = true;
+}
 
 -- the extension enabled, and nothing else
 abbrev withExtension : State
-withExtension = record { setup = record { iid = false; icc = false; ext = true; iidmode = 7; iccmode = 7 }; iid = none; icc = none; ipd = none; opd = none; instep = true }
+withExtension = record {
+  setup = record { iid = false; icc = false; ext = true; iidmode = 7; iccmode = 7 };
+  iid = none;
+  icc =
+      none;
+  ipd = none;
+  opd = none;
+  instep = true;
+}
 
 abbrev accepted : ℕ → Contents → State → Reading
 accepted bits c st = record { number = 0; bits = bits; contents = c; state = st }
@@ -59,7 +83,8 @@ unfolding all
 fresh-0000 = refl
 
 -- out of step, 00: 35; and 00 00: 12 still
-lost-00 : (readFrom (lost fresh) (0 ∷ []) 0 1 ≡ refusal 35 (lost fresh)) × (readFrom (lost fresh) (0 ∷ 0 ∷ []) 0 2 ≡ refusal 12 (lost fresh))
+lost-00 : (readFrom (lost fresh) (0 ∷ []) 0 1 ≡ refusal 35 (lost fresh))
+    × (readFrom (lost fresh) (0 ∷ 0 ∷ []) 0 2 ≡ refusal 12 (lost fresh))
 unfolding all
 lost-00 = (refl, refl)
 
@@ -90,7 +115,8 @@ unfolding all
 phase-6 = refl
 
 -- IID mode 0, index 7, difference +1: 32; and coherence is not taken modulo 8
-index-7 : (index Iid 0 1 (padded 34 (pos 0) (pos 7 ∷ [])) [] (192 ∷ []) 0 8 ≡ refused 32 0) × (index Icc 0 1 (padded 34 (pos 0) (pos 7 ∷ [])) [] (128 ∷ []) 0 8 ≡ refused 32 0)
+index-7 : (index Iid 0 1 (padded 34 (pos 0) (pos 7 ∷ [])) [] (192 ∷ []) 0 8 ≡ refused 32 0)
+    × (index Icc 0 1 (padded 34 (pos 0) (pos 7 ∷ [])) [] (128 ∷ []) 0 8 ≡ refused 32 0)
 unfolding all
 index-7 = (refl, refl)
 
@@ -100,7 +126,8 @@ unfolding all
 time-31 = refl
 
 -- a range outside the buffer: 1, before an unsound state: 4
-order-1-4 : (readFrom (withIid 7 none) (0 ∷ []) 0 2 ≡ refusal 1 (withIid 7 none)) × (readFrom (withIid 7 none) (0 ∷ []) 0 1 ≡ refusal 4 (withIid 7 none))
+order-1-4 : (readFrom (withIid 7 none) (0 ∷ []) 0 2 ≡ refusal 1 (withIid 7 none))
+    × (readFrom (withIid 7 none) (0 ∷ []) 0 1 ≡ refusal 4 (withIid 7 none))
 unfolding all
 order-1-4 = (refl, refl)
 

@@ -38,7 +38,8 @@ steady = record {
 pub reads : (st : State) (b : List ℕ) (start end : ℕ) → turn stereo st (given b start end) ≡ turnOf (readFrom st b start end)
 unfolding readFrom readBytes taken
 reads st b start end =
-    go (inBuffer start end (length b)) (sound st) (whole (payload (from st)) (range b start end)) (λ n place q. ne-eqb n 0 (whole-not-0 (from st) (range b start end) n place q))
+    go (inBuffer start end (length b)) (sound st) (whole (payload (from st)) (range b start end))
+    (λ n place q. ne-eqb n 0 (whole-not-0 (from st) (range b start end) n place q))
   where
     step : (c : Contents) (n : ℕ) (t : Bool)
         → pick t (accepted stereo st c n) (losing stereo st 35)

@@ -33,12 +33,14 @@ module _ (st : State) where
   pub one-report : (r r′ : Report) → r ≡ missing st → r′ ≡ missing st → r ≡ r′
   one-report r r′ p q = p ∙ sym q
 
-  pub one-reading : (bytes : List ℕ) (start end : ℕ) (r r′ : Reading) → r ≡ readFrom st bytes start end → r′ ≡ readFrom st bytes start end → r ≡ r′
+  pub one-reading : (bytes : List ℕ) (start end : ℕ) (r r′ : Reading) → r ≡ readFrom st bytes start end
+      → r′ ≡ readFrom st bytes start end → r ≡ r′
   one-reading bytes start end r r′ p q = p ∙ sym q
 
   -- the answer, and the lent buffer afterwards
   pub one-writing : (c : Contents) (before after after′ : List ℕ) (r r′ : Written)
-      → (r ≡ writing st c (length before)) × (after ≡ writtenOver r st c before) → (r′ ≡ writing st c (length before)) × (after′ ≡ writtenOver r′ st c before)
+      → (r ≡ writing st c (length before)) × (after ≡ writtenOver r st c before)
+      → (r′ ≡ writing st c (length before)) × (after′ ≡ writtenOver r′ st c before)
       → (r ≡ r′) × (after ≡ after′)
   one-writing c before after after′ r r′ p q =
       let e = p .0 ∙ sym (q .0) in
@@ -46,11 +48,13 @@ module _ (st : State) where
 
   -- the answer, and the lent state afterwards
   pub one-lent-reading : (bytes : List ℕ) (start end : ℕ) (r r′ : Answer) (after after′ : State)
-      → (r ≡ answerOf (readFrom st bytes start end)) × (after ≡ readFrom st bytes start end .state) → (r′ ≡ answerOf (readFrom st bytes start end)) × (after′ ≡ readFrom st bytes start end .state)
+      → (r ≡ answerOf (readFrom st bytes start end)) × (after ≡ readFrom st bytes start end .state)
+      → (r′ ≡ answerOf (readFrom st bytes start end)) × (after′ ≡ readFrom st bytes start end .state)
       → (r ≡ r′) × (after ≡ after′)
   one-lent-reading bytes start end r r′ after after′ p q = (p .0 ∙ sym (q .0), p .1 ∙ sym (q .1))
 
-  pub one-lent-report : (r r′ : ℕ) (after after′ : State) → (r ≡ missing st .number) × (after ≡ missing st .state) → (r′ ≡ missing st .number) × (after′ ≡ missing st .state)
+  pub one-lent-report : (r r′ : ℕ) (after after′ : State) → (r ≡ missing st .number) × (after ≡ missing st .state)
+      → (r′ ≡ missing st .number) × (after′ ≡ missing st .state)
       → (r ≡ r′) × (after ≡ after′)
   one-lent-report r r′ after after′ p q = (p .0 ∙ sym (q .0), p .1 ∙ sym (q .1))
 
@@ -62,7 +66,8 @@ pub one-part : (image : List ℕ) (k : ℕ) (r r′ : Part) → r ≡ partOf ima
 one-part image k r r′ p q = p ∙ sym q
 
 -- of a field of the bit reader: what was taken, and where the reader then stands
-pub one-field : (bytes : List ℕ) (at n : ℕ) (t t′ : Took) (next next′ : ℕ) → (t ≡ tookAt bytes at n) × (next ≡ t .next) → (t′ ≡ tookAt bytes at n) × (next′ ≡ t′ .next)
+pub one-field : (bytes : List ℕ) (at n : ℕ) (t t′ : Took) (next next′ : ℕ) → (t ≡ tookAt bytes at n) × (next ≡ t .next)
+    → (t′ ≡ tookAt bytes at n) × (next′ ≡ t′ .next)
     → (t ≡ t′) × (next ≡ next′)
 one-field bytes at n t t′ next next′ p q = let e = p .0 ∙ sym (q .0) in (e, p .1 ∙ ap (λ (t : Took). t .next) e ∙ sym (q .1))
 

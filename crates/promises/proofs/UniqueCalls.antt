@@ -24,14 +24,17 @@ same z p q = p ∙ sym q
 abbrev Called : ℕ → List ℕ → ℕ → List ℕ → Type 0
 Called n after r told = (r ≡ n) × (told ≡ after)
 
-one-call : (n : ℕ) (after : List ℕ) (r r′ : ℕ) (told told′ : List ℕ) → Called n after r told → Called n after r′ told′ → (r ≡ r′) × (told ≡ told′)
+one-call : (n : ℕ) (after : List ℕ) (r r′ : ℕ) (told told′ : List ℕ) → Called n after r told → Called n after r′ told′
+    → (r ≡ r′) × (told ≡ told′)
 one-call n after r r′ told told′ p q = (same n (p .0) (q .0), same after (p .1) (q .1))
 
 module _ (state : List ℕ) (r r′ : ℕ) (after after′ : List ℕ) where
-  pub one-fresh-state : Called (freshNumber state) (freshAfter state) r after → Called (freshNumber state) (freshAfter state) r′ after′ → (r ≡ r′) × (after ≡ after′)
+  pub one-fresh-state : Called (freshNumber state) (freshAfter state) r after → Called (freshNumber state) (freshAfter state) r′ after′
+      → (r ≡ r′) × (after ≡ after′)
   one-fresh-state = one-call (freshNumber state) (freshAfter state) r r′ after after′
 
-  pub one-missing : Called (missingNumber state) (missingAfter state) r after → Called (missingNumber state) (missingAfter state) r′ after′ → (r ≡ r′) × (after ≡ after′)
+  pub one-missing : Called (missingNumber state) (missingAfter state) r after
+      → Called (missingNumber state) (missingAfter state) r′ after′ → (r ≡ r′) × (after ≡ after′)
   one-missing = one-call (missingNumber state) (missingAfter state) r r′ after after′
 
 module _ (image answer : List ℕ) (r r′ : ℕ) (after after′ : List ℕ) where
@@ -60,7 +63,8 @@ module _ (state contents out : List ℕ) where
       (r ≡ writeNumber state contents (length out)) × (s ≡ writeStateAfter state contents (length out))
       × (c ≡ writeContentsAfter state contents (length out)) × (o ≡ writeOutputAfter state contents out)
 
-  pub one-written : (r r′ : ℕ) (s s′ c c′ o o′ : List ℕ) → WriteStereo r s c o → WriteStereo r′ s′ c′ o′ → (r ≡ r′) × (s ≡ s′) × (c ≡ c′) × (o ≡ o′)
+  pub one-written : (r r′ : ℕ) (s s′ c c′ o o′ : List ℕ) → WriteStereo r s c o → WriteStereo r′ s′ c′ o′
+      → (r ≡ r′) × (s ≡ s′) × (c ≡ c′) × (o ≡ o′)
   one-written r r′ s s′ c c′ o o′ p q = (same _ (p .0) (q .0), same _ (p .1) (q .1), same _ (p .2) (q .2), same _ (p .3) (q .3))
 
 -- the channel reader: the number, the three outputs and the answer

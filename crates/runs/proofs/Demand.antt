@@ -1,4 +1,5 @@
--- After any damage to a run, from the first intact restart on outcomes and states equal those of the unspoilt run; and between a stretch that was
+-- After any damage to a run, from the first intact restart on outcomes and states equal those of the unspoilt run; and between a
+-- stretch that was
 -- wholly refused or reported missing and that restart nothing is answered.
 -- Assumes nothing.
 use Prim.Native.Nat.{ℕ}
@@ -26,7 +27,8 @@ module _ {S C : Type 0} (M : Machine S C) (law : Steady M) where
   stretch-lost st e (f ∷ es) q = stretch-lost (turn M st e .state) f es (q .1)
 
   -- out of step, events that are no restart in the other run answer nothing
-  quiet-run : (st st′ : S) (es : List Event) → M .sound st′ ≡ true → M .inStep st ≡ false → NoRestart M (run M st′ es) → Silent (run M st es)
+  quiet-run : (st st′ : S) (es : List Event) → M .sound st′ ≡ true → M .inStep st ≡ false → NoRestart M (run M st′ es)
+      → Silent (run M st es)
   quiet-run st st′ [] h o n = tt
   quiet-run st st′ (e ∷ es) h o n =
       let q = quiet-turn M law st st′ e h o (n .0) in
@@ -46,7 +48,8 @@ module _ {S C : Type 0} (M : Machine S C) (law : Steady M) where
         → Silent (run M (after M (M .fresh) (before ++ spoilt)) between)
     nothing-between d q n = go spoilt d q
       where
-        go : (es : List Event) → es ≢ [] → AllLost (run M (after M (M .fresh) before) es) → Silent (run M (after M (M .fresh) (before ++ es)) between)
+        go : (es : List Event) → es ≢ [] → AllLost (run M (after M (M .fresh) before) es)
+            → Silent (run M (after M (M .fresh) (before ++ es)) between)
         go [] d q = absurd (d refl)
         go (e ∷ es) d q =
             quiet-run (after M (M .fresh) (before ++ e ∷ es)) (after M (M .fresh) (before ++ stretch)) between

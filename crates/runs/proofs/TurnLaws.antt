@@ -8,7 +8,8 @@ use lib.ListN.{length}
 use Rattle.bits.specs.Reader.{Answer, got, refused, pick}
 use Rattle.bits.specs.Payload.{inBuffer, range}
 use Rattle.bits.proofs.Bools.{true-false}
-use Rattle.runs.specs.Machine.{Event, payload, missing, Machine, Outcome, answered, reported, Turn, origin, untouched, losing, accepted, concluded, turn, after}
+use Rattle.runs.specs.Machine.{Event, payload, missing, Machine, Outcome, answered, reported, Turn, origin, untouched, losing}
+use Rattle.runs.specs.Machine.{accepted, concluded, turn, after}
 use Rattle.runs.specs.Damage.{Steady, Restarting, isAnswer, isLost}
 
 -- an outcome that is no answer
@@ -34,13 +35,15 @@ module _ {S C : Type 0} (M : Machine S C) where
           kind true e = let u : d ≡ c = cc in let v : m ≡ n = cc in cc
           kind false e = no-answer e refl
 
-      sound : (t : Bool) → M .sound st ≡ t → pick t (concluded M st (M .read (origin M st) (range b x y))) (untouched M st 4) .outcome ≡ answered c n
+      sound : (t : Bool) → M .sound st ≡ t
+          → pick t (concluded M st (M .read (origin M st) (range b x y))) (untouched M st 4) .outcome ≡ answered c n
           → (M .sound st ≡ true) × (M .read (origin M st) (range b x y) ≡ got c n)
       sound true q e = (q, from (M .read (origin M st) (range b x y)) e)
       sound false q e = no-answer e refl
 
       in-range : (t : Bool) → inBuffer x y (length b) ≡ t
-          → pick t (pick (M .sound st) (concluded M st (M .read (origin M st) (range b x y))) (untouched M st 4)) (untouched M st 1) .outcome ≡ answered c n
+          → pick t (pick (M .sound st) (concluded M st (M .read (origin M st) (range b x y))) (untouched M st 4))
+          (untouched M st 1) .outcome ≡ answered c n
           → (inBuffer x y (length b) ≡ true) × (M .sound st ≡ true) × (M .read (origin M st) (range b x y) ≡ got c n)
       in-range true q e = let w = sound (M .sound st) refl e in (q, w .0, w .1)
       in-range false q e = no-answer e refl
@@ -53,7 +56,8 @@ module _ {S C : Type 0} (M : Machine S C) (law : Steady M) where
       go true q = rw q s
       go false q = rw q (law .fresh-sound)
 
-  concluded-sound : (st : S) (s : List ℕ) → M .sound st ≡ true → (a : Answer C) → M .read (origin M st) s ≡ a → M .sound (concluded M st a .state) ≡ true
+  concluded-sound : (st : S) (s : List ℕ) → M .sound st ≡ true → (a : Answer C) → M .read (origin M st) s ≡ a
+      → M .sound (concluded M st a .state) ≡ true
   concluded-sound st s h (refused n p) q = law .lost-sound st h
   concluded-sound st s h (got c n) q = kind (M .inStep st || M .restart c)
     where
@@ -67,7 +71,8 @@ module _ {S C : Type 0} (M : Machine S C) (law : Steady M) where
   turn-sound st (payload b x y) h = go (inBuffer x y (length b))
     where
       go : (t : Bool)
-          → M .sound (pick t (pick (M .sound st) (concluded M st (M .read (origin M st) (range b x y))) (untouched M st 4)) (untouched M st 1) .state) ≡ true
+          → M .sound (pick t (pick (M .sound st) (concluded M st (M .read (origin M st) (range b x y))) (untouched M st 4))
+          (untouched M st 1) .state) ≡ true
       go true = rw h (concluded-sound st (range b x y) h (M .read (origin M st) (range b x y)) refl)
       go false = h
 
@@ -77,10 +82,12 @@ module _ {S C : Type 0} (M : Machine S C) (law : Steady M) where
 
   -- in a run from the fresh state neither 1 nor 4 arises, but for a range outside its buffer: what comes is the payload's own
   pub own-turn : (es : List Event) (b : List ℕ) (x y : ℕ) → inBuffer x y (length b) ≡ true
-      → turn M (after M (M .fresh) es) (payload b x y) ≡ concluded M (after M (M .fresh) es) (M .read (origin M (after M (M .fresh) es)) (range b x y))
+      → turn M (after M (M .fresh) es) (payload b x y)
+      ≡ concluded M (after M (M .fresh) es) (M .read (origin M (after M (M .fresh) es)) (range b x y))
   own-turn es b x y r = read-turn M (after M (M .fresh) es) b x y r (after-sound (M .fresh) es (law .fresh-sound))
 
-  pub own-report : (es : List Event) → turn M (after M (M .fresh) es) missing ≡ record { outcome = reported; state = M .lost (after M (M .fresh) es) }
+  pub own-report : (es : List Event)
+      → turn M (after M (M .fresh) es) missing ≡ record { outcome = reported; state = M .lost (after M (M .fresh) es) }
   own-report es = rw (after-sound (M .fresh) es (law .fresh-sound))
 
   -- a payload that was answered as a restart is answered so from every sound state, with the same state after it
@@ -88,7 +95,8 @@ module _ {S C : Type 0} (M : Machine S C) (law : Steady M) where
       → turn M st′ (payload b x y) ≡ turn M st (payload b x y)
   restart-turn st st′ b x y h w =
       let a = answered-turn M st b x y (w .0) (w .1) (w .2) in
-      comes (origin M st) st′ b x y (w .0) (w .1) (a .0) h (a .2) (w .3) ∙ sym (comes (origin M st) st b x y (w .0) (w .1) (a .0) (a .1) (a .2) (w .3))
+      comes (origin M st) st′ b x y (w .0) (w .1) (a .0) h (a .2) (w .3)
+      ∙ sym (comes (origin M st) st b x y (w .0) (w .1) (a .0) (a .1) (a .2) (w .3))
     where
       comes : (o st : S) (b : List ℕ) (x y : ℕ) (c : C) (n : ℕ) → inBuffer x y (length b) ≡ true → M .sound st ≡ true
           → M .read o (range b x y) ≡ got c n → M .restart c ≡ true
@@ -98,7 +106,8 @@ module _ {S C : Type 0} (M : Machine S C) (law : Steady M) where
           ∙ ap (concluded M st) (law .same-read o (origin M st) (range b x y) c n e q)
           ∙ taken (M .inStep st)
         where
-          taken : (t : Bool) → pick (t || M .restart c) (accepted M st c n) (losing M st 35) ≡ record { outcome = answered c n; state = M .carried (M .fresh) c }
+          taken : (t : Bool) → pick (t || M .restart c) (accepted M st c n) (losing M st 35)
+              ≡ record { outcome = answered c n; state = M .carried (M .fresh) c }
           taken true = ap (λ (z : S). record { outcome = answered c n; state = z }) (law .same-carried (origin M st) (M .fresh) c q)
           taken false = rw q (ap (λ (z : S). record { outcome = answered c n; state = z }) (law .same-carried (origin M st) (M .fresh) c q))
 
@@ -116,7 +125,8 @@ module _ {S C : Type 0} (M : Machine S C) (law : Steady M) where
       own (refused n p) q = law .out-of-step st
       own (got c n) q = kind (M .inStep st || M .restart c) q
         where
-          kind : (t : Bool) → isLost (pick t (accepted M st c n) (losing M st 35) .outcome) ≡ true → M .inStep (pick t (accepted M st c n) (losing M st 35) .state) ≡ false
+          kind : (t : Bool) → isLost (pick t (accepted M st c n) (losing M st 35) .outcome) ≡ true
+              → M .inStep (pick t (accepted M st c n) (losing M st 35) .state) ≡ false
           kind true q = absurd (true-false false q refl)
           kind false q = law .out-of-step st
 
@@ -126,8 +136,10 @@ module _ {S C : Type 0} (M : Machine S C) (law : Steady M) where
       sound false q = absurd (true-false false q refl)
 
       in-range : (t : Bool)
-          → isLost (pick t (pick (M .sound st) (concluded M st (M .read (origin M st) (range b x y))) (untouched M st 4)) (untouched M st 1) .outcome) ≡ true
-          → M .inStep (pick t (pick (M .sound st) (concluded M st (M .read (origin M st) (range b x y))) (untouched M st 4)) (untouched M st 1) .state) ≡ false
+          → isLost (pick t (pick (M .sound st) (concluded M st (M .read (origin M st) (range b x y))) (untouched M st 4))
+          (untouched M st 1) .outcome) ≡ true
+          → M .inStep (pick t (pick (M .sound st) (concluded M st (M .read (origin M st) (range b x y))) (untouched M st 4))
+          (untouched M st 1) .state) ≡ false
       in-range true q = sound (M .sound st) q
       in-range false q = absurd (true-false false q refl)
 
@@ -145,19 +157,22 @@ module _ {S C : Type 0} (M : Machine S C) (law : Steady M) where
       Quiet : Turn S C → Type 0
       Quiet t = (isAnswer (t .outcome) ≡ false) × (M .inStep (t .state) ≡ false)
 
-      own : inBuffer x y (length b) ≡ true → M .sound st ≡ true → (a : Answer C) → M .read (origin M st) (range b x y) ≡ a → Quiet (concluded M st a)
+      own : inBuffer x y (length b) ≡ true → M .sound st ≡ true → (a : Answer C) → M .read (origin M st) (range b x y) ≡ a
+          → Quiet (concluded M st a)
       own r s (refused m p) q = (refl, law .out-of-step st)
       own r s (got c m) q = kind (M .restart c) refl
         where
           kind : (t : Bool) → M .restart c ≡ t → Quiet (pick (M .inStep st || M .restart c) (accepted M st c m) (losing M st 35))
           kind true e =
               let t : turn M st (payload b x y) .outcome ≡ answered c m =
-              ap (λ (z : Turn S C). z .outcome) (read-turn M st b x y r s) ∙ ap (λ (a : Answer C). concluded M st a .outcome) q ∙ rw (o, e) in
+              ap (λ (z : Turn S C). z .outcome) (read-turn M st b x y r s) ∙ ap (λ (a : Answer C). concluded M st a .outcome) q
+              ∙ rw (o, e) in
               let w = restart-turn st st′ b x y h (c, m, t, e) in
               absurd (n (c, m, ap (λ (z : Turn S C). z .outcome) w ∙ t, e))
           kind false e = rw (o, e) (refl, law .out-of-step st)
 
-      sound : inBuffer x y (length b) ≡ true → (t : Bool) → M .sound st ≡ t → Quiet (pick t (concluded M st (M .read (origin M st) (range b x y))) (untouched M st 4))
+      sound : inBuffer x y (length b) ≡ true → (t : Bool) → M .sound st ≡ t
+          → Quiet (pick t (concluded M st (M .read (origin M st) (range b x y))) (untouched M st 4))
       sound r true s = own r s (M .read (origin M st) (range b x y)) refl
       sound r false s = (refl, o)
 

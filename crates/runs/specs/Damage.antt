@@ -7,7 +7,8 @@ use lib.Dec.{leb}
 use Rattle.bits.specs.Reader.{got}
 use Rattle.runs.specs.Machine.{Machine, Outcome, answered, refusal, reported, Turn}
 
--- what is asked of a machine: a restart is read the same from every state, and leaves the same state; a refusal loses step; and soundness is
+-- what is asked of a machine: a restart is read the same from every state, and leaves the same state; a refusal loses step; and
+-- soundness is
 -- kept
 pub record Steady {S C : Type 0} (M : Machine S C) : Type 0 where
   pub same-read : (st st′ : S) (s : List ℕ) (c : C) (n : ℕ) → M .read st s ≡ got c n → M .restart c ≡ true → M .read st′ s ≡ got c n
@@ -15,7 +16,8 @@ pub record Steady {S C : Type 0} (M : Machine S C) : Type 0 where
   pub out-of-step : (st : S) → M .inStep (M .lost st) ≡ false
   pub fresh-sound : M .sound (M .fresh) ≡ true
   pub lost-sound : (st : S) → M .sound st ≡ true → M .sound (M .lost st) ≡ true
-  pub carried-sound : (st : S) (s : List ℕ) (c : C) (n : ℕ) → M .sound st ≡ true → M .read st s ≡ got c n → M .sound (M .carried st c) ≡ true
+  pub carried-sound : (st : S) (s : List ℕ) (c : C) (n : ℕ) → M .sound st ≡ true → M .read st s ≡ got c n
+      → M .sound (M .carried st c) ≡ true
 
 -- a turn that answers a restart
 abbrev pub Restarting : {S C : Type 0} → Machine S C → Turn S C → Type 0

@@ -32,7 +32,8 @@ module _ (st : State) (h : Header) (f : Setup) (fr : Frame) (s : List ℕ) (at e
   unfolding envelopes
   icc-refused iid p1 n place q r = rw (q, r)
 
-  pub envelopes-rest : (iid : List Row) (p1 : ℕ) (icc : List Row) (p2 : ℕ) → rows Iid (f .iid) (f .iidmode) (st .iid) (fr .envelopes) s at end ≡ got iid p1
+  pub envelopes-rest : (iid : List Row) (p1 : ℕ) (icc : List Row) (p2 : ℕ)
+      → rows Iid (f .iid) (f .iidmode) (st .iid) (fr .envelopes) s at end ≡ got iid p1
       → rows Icc (f .icc) (f .iccmode) (st .icc) (fr .envelopes) s p1 end ≡ got icc p2 → (e : Ended) (x : Extension)
       → endedAnswer e x ≡ extension (f .ext) (f .iidmode) (st .ipd) (st .opd) (fr .envelopes) s p2 end
       → endedAnswer {A = Contents} e (record { header = h; frame = fr; iid = iid; icc = icc; extension = x }) ≡ envelopes st h f fr s at end
@@ -45,7 +46,8 @@ module _ (st : State) (s : List ℕ) (at end : ℕ) where
   unfolding payload
   header-refused n place q = rw q
 
-  pub frame-refused : (h : Header) (p1 n place : ℕ) → header s at end ≡ got h p1 → frame s p1 end ≡ refused n place → refused n place ≡ payload st s at end
+  pub frame-refused : (h : Header) (p1 n place : ℕ) → header s at end ≡ got h p1 → frame s p1 end ≡ refused n place
+      → refused n place ≡ payload st s at end
   unfolding payload
   frame-refused h p1 n place q r = rw (q, r)
 

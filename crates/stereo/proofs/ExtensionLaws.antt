@@ -27,7 +27,8 @@ use Rattle.stereo_indices.specs.declared.Record.{Record}
 use Rattle.stereo_indices.specs.declared.Row.{Row}
 use Rattle.stereo_indices.proofs.RowLaws.{recordAfterRows-more}
 use Rattle.stereo.specs.InnerAnswers.{endedInside}
-use Rattle.stereo.specs.Extension.{noPhases, noPart, ipds, opds, phasesIn, phasesNext, phasesOf, phases, phaseFlag, v0, another, part, announced, escCount, extensionSent}
+use Rattle.stereo.specs.Extension.{noPhases, noPart, ipds, opds, phasesIn, phasesNext, phasesOf, phases, phaseFlag, v0, another}
+use Rattle.stereo.specs.Extension.{part, announced, escCount, extensionSent}
 use Rattle.stereo.specs.declared.Body.{Body}
 use Rattle.stereo.specs.declared.Part.{Part}
 use Rattle.stereo.specs.declared.Extension.{Extension}
@@ -39,7 +40,8 @@ module _ (mode : ℕ) (ipd opd : Record) (s : List ℕ) (at end : ℕ) where
   unfolding phasesIn
   phases-refused n place q = rw q
 
-  pub phases-rest : (a : Row) (next : ℕ) → row Ipd mode ipd s at end ≡ got a next → (e : Ended) (b : Row) → endedAnswer e b ≡ row Opd mode opd s next end
+  pub phases-rest : (a : Row) (next : ℕ) → row Ipd mode ipd s at end ≡ got a next → (e : Ended) (b : Row)
+      → endedAnswer e b ≡ row Opd mode opd s next end
       → endedAnswer {A = Phases} e (record { ipd = a; opd = b }) ≡ phasesIn mode ipd opd s at end
   unfolding phasesIn
   phases-rest a next q (At m) b w = rw (q, ← w)
@@ -66,10 +68,12 @@ opds-more [] p = refl
 opds-more (q ∷ ps) p = ap (λ (rs : List Row). q .opd ∷ rs) (opds-more ps p)
 
 -- the records after one envelope more
-pub after-ipds : (h : Record) (mode : ℕ) (ps : List Phases) (p : Phases) → recordAfterRows h mode (ipds (ps ++ p ∷ [])) ≡ recordOf mode (p .ipd .indices)
+pub after-ipds : (h : Record) (mode : ℕ) (ps : List Phases) (p : Phases)
+    → recordAfterRows h mode (ipds (ps ++ p ∷ [])) ≡ recordOf mode (p .ipd .indices)
 after-ipds h mode ps p = rw (ipds-more ps p) (recordAfterRows-more h mode (ipds ps) (p .ipd))
 
-pub after-opds : (h : Record) (mode : ℕ) (ps : List Phases) (p : Phases) → recordAfterRows h mode (opds (ps ++ p ∷ [])) ≡ recordOf mode (p .opd .indices)
+pub after-opds : (h : Record) (mode : ℕ) (ps : List Phases) (p : Phases)
+    → recordAfterRows h mode (opds (ps ++ p ∷ [])) ≡ recordOf mode (p .opd .indices)
 after-opds h mode ps p = rw (opds-more ps p) (recordAfterRows-more h mode (opds ps) (p .opd))
 
 module _ (mode : ℕ) (ipd opd : Record) (n : ℕ) (s : List ℕ) (at end : ℕ) where
@@ -83,8 +87,10 @@ module _ (mode : ℕ) (ipd opd : Record) (n : ℕ) (s : List ℕ) (at end : ℕ)
   unfolding v0
   v0-cut phase p1 m place q r = rw (q, r)
 
-  pub v0-rest : (phase p1 : ℕ) (ps : List Phases) (p2 : ℕ) → phaseFlag mode s at end ≡ got phase p1 → phases phase mode ipd opd n s p1 end ≡ got ps p2
-      → (f : Field) → fieldAnswer f ≡ zeroBit 13 s p2 end → endedAnswer {A = Body} (passedOn f) (record { phase = phase; phases = ps }) ≡ v0 mode ipd opd n s at end
+  pub v0-rest : (phase p1 : ℕ) (ps : List Phases) (p2 : ℕ) → phaseFlag mode s at end ≡ got phase p1
+      → phases phase mode ipd opd n s p1 end ≡ got ps p2
+      → (f : Field) → fieldAnswer f ≡ zeroBit 13 s p2 end
+      → endedAnswer {A = Body} (passedOn f) (record { phase = phase; phases = ps }) ≡ v0 mode ipd opd n s at end
   unfolding v0
   v0-rest phase p1 ps p2 q r (Got v next) w = rw (q, r, ← w)
   v0-rest phase p1 ps p2 q r (Short m place) w = rw (q, r, ← w)
@@ -100,7 +106,8 @@ module _ (mode : ℕ) (ipd opd : Record) (n : ℕ) (s : List ℕ) (at end : ℕ)
   part-another b next q h = let l : next + 2 ≤ end = omega arith in rw (q, lt-leb _ _ h, le-leb _ _ l)
 
   pub part-fill : (b : Body) (next : ℕ) → v0 mode ipd opd n s at end ≡ got b next → end - next ≤ 7
-      → got (record { body = b; count = end - next; value = bitsFrom s next (end - next) }) (next + (end - next)) ≡ part mode ipd opd n s at end
+      → got (record { body = b; count = end - next; value = bitsFrom s next (end - next) }) (next + (end - next))
+      ≡ part mode ipd opd n s at end
   unfolding part leftOver
   part-fill b next q h = rw (q, le-leb _ _ h)
 
@@ -114,7 +121,8 @@ module _ (mode : ℕ) (ipd opd : Record) (n : ℕ) (s : List ℕ) (at end : ℕ)
     unfolding announced inside
     announced-short h l = rw (ne-eqb _ _ h, lt-leb _ _ l)
 
-    pub announced-part : (size ≡ 0 → ⊥) → at + 8 * size ≤ end → (e : Ended) (p : Part) → endedAnswer e p ≡ part mode ipd opd n s at (at + 8 * size)
+    pub announced-part : (size ≡ 0 → ⊥) → at + 8 * size ≤ end → (e : Ended) (p : Part)
+        → endedAnswer e p ≡ part mode ipd opd n s at (at + 8 * size)
         → endedAnswer (endedInside e) p ≡ announced mode ipd opd n size s at end
     unfolding announced inside
     announced-part h l (At m) p w = rw (ne-eqb _ _ h, le-leb _ _ l, ← w)

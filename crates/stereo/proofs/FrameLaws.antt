@@ -14,16 +14,19 @@ use Rattle.stereo.specs.Frame.{envelopeCount, bordersOf, borders, frame}
 use Rattle.stereo.specs.declared.Frame.{Frame}
 
 module _ (n : ℕ) (s : List ℕ) (at end : ℕ) where
-  pub borders-got : (bs : List ℕ) (next : ℕ) → counted 0 n (more (λ bs. field 5)) [] s at end ≡ got bs next → got (padded 4 0 bs) next ≡ bordersOf n s at end
+  pub borders-got : (bs : List ℕ) (next : ℕ) → counted 0 n (more (λ bs. field 5)) [] s at end ≡ got bs next
+      → got (padded 4 0 bs) next ≡ bordersOf n s at end
   unfolding bordersOf listed
   borders-got bs next q = rw q
 
-  pub borders-refused : (m place : ℕ) → counted 0 n (more (λ bs. field 5)) [] s at end ≡ refused m place → refused m place ≡ bordersOf n s at end
+  pub borders-refused : (m place : ℕ) → counted 0 n (more (λ bs. field 5)) [] s at end ≡ refused m place
+      → refused m place ≡ bordersOf n s at end
   unfolding bordersOf listed
   borders-refused m place q = rw q
 
 -- the frame, from its class and the number of its envelopes
-pub frame-rest : (s : List ℕ) (at end class p1 i p2 n : ℕ) → field 1 s at end ≡ got class p1 → field 2 s p1 end ≡ got i p2 → n ≡ envelopeCount class i
+pub frame-rest : (s : List ℕ) (at end class p1 i p2 n : ℕ) → field 1 s at end ≡ got class p1 → field 2 s p1 end ≡ got i p2
+    → n ≡ envelopeCount class i
     → (e : Ended) (bs : List ℕ) → endedAnswer e bs ≡ borders class n s p2 end
     → endedAnswer {A = Frame} e (record { class = class; envelopes = n; borders = bs }) ≡ frame s at end
 unfolding frame

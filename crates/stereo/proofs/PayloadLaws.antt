@@ -21,7 +21,8 @@ use Rattle.stereo_indices.proofs.ReadingLaws.{row-lawful, rows-lawful}
 use Rattle.stereo_indices.specs.declared.Record.{Record}
 use Rattle.stereo.specs.Header.{mode, switch, headerFields, header}
 use Rattle.stereo.specs.Frame.{bordersOf, borders, frame}
-use Rattle.stereo.specs.Extension.{phasesIn, phasesOf, phases, phaseFlag, v0, another, part, announced, escCount, extensionSent, extension}
+use Rattle.stereo.specs.Extension.{phasesIn, phasesOf, phases, phaseFlag, v0, another, part, announced, escCount, extensionSent}
+use Rattle.stereo.specs.Extension.{extension}
 use Rattle.stereo.specs.Payload.{envelopes, payload}
 use Rattle.stereo.specs.declared.Setup.{Setup}
 use Rattle.stereo.specs.declared.State.{State}
@@ -73,7 +74,8 @@ v0-lawful m ipd opd n = search (lawful, flag-lawful, phases-lawful) depth 12
 
 another-filling : Filling another
 unfolding another refuseAt
-another-filling = then-filling here _ here-lawful λ place. then-filling (field 2) _ (field-lawful 2) λ id. refusing-filling (pick (eqb id 0) 33 13) (λ at. place)
+another-filling = then-filling here _ here-lawful λ place. then-filling (field 2) _ (field-lawful 2) λ id.
+    refusing-filling (pick (eqb id 0) 33 13) (λ at. place)
 
 pub part-filling : (m : ℕ) (ipd opd : Record) (n : ℕ) → Filling (part m ipd opd n)
 unfolding part
@@ -83,7 +85,8 @@ part-filling m ipd opd n =
 
 announced-lawful : (m : ℕ) (ipd opd : Record) (n size : ℕ) → Lawful (announced m ipd opd n size)
 unfolding announced
-announced-lawful m ipd opd n size = pick-lawful (eqb size 0) (give-lawful _) (inside-lawful (8 * size) 33 (part m ipd opd n) (part-filling m ipd opd n))
+announced-lawful m ipd opd n size =
+    pick-lawful (eqb size 0) (give-lawful _) (inside-lawful (8 * size) 33 (part m ipd opd n) (part-filling m ipd opd n))
 
 esc-lawful : (size : ℕ) → Lawful (escCount size)
 unfolding escCount

@@ -33,24 +33,28 @@ use Rattle.stereo.specs.declared.State.{State}
 use Rattle.stereo.specs.declared.Header.{Header}
 use Rattle.stereo.specs.declared.Frame.{Frame}
 use Rattle.stereo.specs.declared.Contents.{Contents}
-use Rattle.bits.proofs.NearLaws.{Near, wider, give-near, field-near, expecting-near, pick-near, bind-near, known-near, listed-near, inside-near}
+use Rattle.bits.proofs.NearLaws.{Near, wider, give-near, field-near, expecting-near, pick-near, bind-near, known-near, listed-near}
+use Rattle.bits.proofs.NearLaws.{inside-near}
 use Rattle.tables.proofs.WordNear.{word-near}
 use Rattle.stereo.proofs.ExtensionLaws.{esc-below}
 use Rattle.stereo.proofs.PayloadLaws.{part-filling}
 
 index-near : (k : Kind) (m t : ℕ) (before xs : List ℤ) → Near 20 (index k m t before xs)
 unfolding index indexFrom difference
-index-near k m t before xs = bind-near 20 0 _ _ (expecting-near 32 _ 20 _ (of-table (λ t. Near 20 (wordOf t)) word-near k m t)) λ e. give-near 0 _
+index-near k m t before xs =
+    bind-near 20 0 _ _ (expecting-near 32 _ 20 _ (of-table (λ t. Near 20 (wordOf t)) word-near k m t)) λ e. give-near 0 _
 
 row-near : (k : Kind) (m : ℕ) (h : Record) → Near 681 (row k m h)
 unfolding row indices
 row-near k m h =
     bind-near 1 680 _ _ (expecting-near 31 _ 1 _ (field-near 1)) λ t.
-    bind-near 680 0 _ _ (bind-near 680 0 _ _ (listed-near 20 _ (index-near k m t (h .indices)) (bands k m) 34 (bands-le k m)) λ xs. give-near 0 _) λ xs. give-near 0 _
+    bind-near 680 0 _ _ (bind-near 680 0 _ _ (listed-near 20 _ (index-near k m t (h .indices)) (bands k m) 34 (bands-le k m)) λ xs.
+    give-near 0 _) λ xs. give-near 0 _
 
 rows-near : (k : Kind) (on : Bool) (m : ℕ) (h : Record) (n : ℕ) → n ≤ 4 → Near 2724 (rows k on m h n)
 unfolding rows rowsOf
-rows-near k on m h n l = pick-near on (bind-near 2724 0 _ _ (listed-near 681 _ (λ rs. row-near k m _) n 4 l) λ rs. give-near 0 _) (give-near 2724 _)
+rows-near k on m h n l = pick-near on (bind-near 2724 0 _ _ (listed-near 681 _ (λ rs. row-near k m _) n 4 l) λ rs. give-near 0 _)
+    (give-near 2724 _)
 
 mode-near : (on : ℕ) → Near 3 (mode on)
 unfolding mode
@@ -82,7 +86,9 @@ unfolding frame borders bordersOf
 frame-near =
     bind-near 1 22 _ _ (field-near 1) λ class.
     known-near 2 20 (field 2) _ (λ i. i < 4) (field-near 2) (λ s at end next i e. field-below 2 s at end i next e) λ i l.
-    bind-near 20 0 _ _ (pick-near (eqb class 1) (bind-near 20 0 _ _ (listed-near 5 _ (λ bs. field-near 5) _ 4 (count-le class i l)) λ bs. give-near 0 _) (give-near 20 _)) λ bs. give-near 0 _
+    bind-near 20 0 _ _ (pick-near (eqb class 1)
+    (bind-near 20 0 _ _ (listed-near 5 _ (λ bs. field-near 5) _ 4 (count-le class i l)) λ bs. give-near 0 _) (give-near 20 _)) λ bs.
+    give-near 0 _
 
 -- a frame has at most 4 envelopes
 frame-few : (s : List ℕ) (at end next : ℕ) (fr : Frame) → frame s at end ≡ got fr next → fr .envelopes ≤ 4
@@ -103,7 +109,8 @@ unfolding extension extensionSent announced
 extension-near on m ipd opd n =
     pick-near on (known-near 4 2168 (field 4) _ (λ z. z < 16) (field-near 4) (λ s at end next z e. field-below 4 s at end z next e) λ z l.
     known-near 8 2160 (escCount z) _ (λ c. c < 256) (esc-near z) (λ s at end next c e. esc-below z s at end c next e) λ c o.
-    bind-near 2160 0 _ _ (pick-near (eqb (z + c) 0) (give-near 2160 _) (wider (inside-near (8 * (z + c)) 33 (part m ipd opd n) (part-filling m ipd opd n)) (omega arith))) λ p. give-near 0 _)
+    bind-near 2160 0 _ _ (pick-near (eqb (z + c) 0) (give-near 2160 _)
+    (wider (inside-near (8 * (z + c)) 33 (part m ipd opd n) (part-filling m ipd opd n)) (omega arith))) λ p. give-near 0 _)
     (give-near 2172 _)
 
 envelopes-near : (st : State) (h : Header) (f : Setup) (fr : Frame) → fr .envelopes ≤ 4 → Near 7620 (envelopes st h f fr)
@@ -137,11 +144,13 @@ whole-near st s =
       | no d ↦ let e : min (length s) 1025 ≡ length s = omega arith in ap (λ (n : ℕ). (payload st >>= ended) s 0 (8 * n)) e
     ]
   where
-    go : (end : ℕ) → 8200 ≤ end → (x : Answer Contents) → payload st s 0 (8 * 1025) ≡ x → (payload st >>= ended) s 0 (8 * 1025) ≡ (payload st >>= ended) s 0 end
+    go : (end : ℕ) → 8200 ≤ end → (x : Answer Contents) → payload st s 0 (8 * 1025) ≡ x
+        → (payload st >>= ended) s 0 (8 * 1025) ≡ (payload st >>= ended) s 0 end
     go end h (got c next) e =
         let q : payload st s 0 end ≡ got c next = payload-near st .same s 0 end (8 * 1025) (omega arith) (omega arith) ∙ e in
         let r = payload-near st .reach s 0 (8 * 1025) next c (omega arith) e in
-        ap (λ (x : Answer Contents). after x ended s (8 * 1025)) e ∙ far-end c s next (8 * 1025) r (omega arith) ∙ sym (far-end c s next end r h)
+        ap (λ (x : Answer Contents). after x ended s (8 * 1025)) e ∙ far-end c s next (8 * 1025) r (omega arith)
+        ∙ sym (far-end c s next end r h)
         ∙ sym (ap (λ (x : Answer Contents). after x ended s end) q)
     go end h (refused n p) e =
         let q : payload st s 0 end ≡ refused n p = payload-near st .same s 0 end (8 * 1025) (omega arith) (omega arith) ∙ e in

@@ -15,7 +15,8 @@ across rs = eqb (getD rs 0 noRow .time) 0
 
 -- and so are the first phases, where there are any
 unfoldable pub phasesAcross : Body → Bool
-phasesAcross b = not (eqb (b .phase) 1) || (eqb (getD (b .phases) 0 noPhases .ipd .time) 0 && eqb (getD (b .phases) 0 noPhases .opd .time) 0)
+phasesAcross b = not (eqb (b .phase) 1) ||
+    (eqb (getD (b .phases) 0 noPhases .ipd .time) 0 && eqb (getD (b .phases) 0 noPhases .opd .time) 0)
 
 -- a header with IID and ICC on, at least one envelope, and the first of each kind that is there across frequency
 unfoldable pub restart : Contents → Bool

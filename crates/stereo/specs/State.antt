@@ -25,7 +25,8 @@ soundSetup f =
 
 -- and every index in range with zeros above the count
 unfoldable pub sound : State → Bool
-sound st = soundSetup (st .setup) && soundRecord Iid (st .iid) && soundRecord Icc (st .icc) && soundRecord Ipd (st .ipd) && soundRecord Opd (st .opd)
+sound st = soundSetup (st .setup) && soundRecord Iid (st .iid) && soundRecord Icc (st .icc) && soundRecord Ipd
+    (st .ipd) && soundRecord Opd (st .opd)
 
 -- out of step, and nothing else touched
 abbrev pub lost : State → State

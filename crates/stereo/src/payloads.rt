@@ -110,7 +110,8 @@ fn read_rest(
     lens: &[u8],
 ) -> ReadExtension
     requires { ⌜ (end ≤ 8 * length (now s)) × Tables (now codes) (now lens) × (n ≤ 4) ⌝ }
-    ensures { λ r. ⌜ endedAnswer (r .ended) (r .extension) ≡ extension (setup .ext) (setup .iidmode) (state .ipd) (state .opd) n (now (s .entry)) at end ⌝ }
+    ensures { λ r. ⌜ endedAnswer (r .ended) (r .extension) ≡ extension (setup .ext) (setup .iidmode) (state .ipd) (state .opd) n
+        (now (s .entry)) at end ⌝ }
 {
     let on = setup.ext;
     let mode = setup.iidmode;

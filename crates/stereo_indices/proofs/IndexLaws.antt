@@ -20,7 +20,8 @@ use Rattle.stereo_indices.specs.declared.Kind.{Kind}
 
 module _ (k : Kind) (mode time : ℕ) (s : List ℕ) (at end : ℕ) where
   -- the word of the table that the code chose
-  pub difference-is : (table : ℕ) {a : Answer ℕ} → table ≡ differenceNumber k mode time → wordOf (tableAt table) s at end ≡ a → difference k mode time s at end ≡ a
+  pub difference-is : (table : ℕ) {a : Answer ℕ} → table ≡ differenceNumber k mode time → wordOf (tableAt table) s at end ≡ a
+      → difference k mode time s at end ≡ a
   unfolding difference
   difference-is table e q =
       ap (λ (t : Table). wordOf t s at end) (sym (table-is k mode time)) ∙ ap (λ (t : ℕ). wordOf (tableAt t) s at end) (sym e) ∙ q
@@ -36,7 +37,8 @@ module _ (k : Kind) (mode time : ℕ) (s : List ℕ) (at end : ℕ) where
     unfolding indexFrom
     index-outside e next q r = rw (q, r)
 
-    pub index-refused : (n place : ℕ) → difference k mode time s at end ≡ refused n place → refused n place ≡ indexFrom k mode time x s at end
+    pub index-refused : (n place : ℕ) → difference k mode time s at end ≡ refused n place
+        → refused n place ≡ indexFrom k mode time x s at end
     unfolding indexFrom
     index-refused n place q = rw q
 
@@ -44,7 +46,8 @@ module _ (k : Kind) (mode time : ℕ) (s : List ℕ) (at end : ℕ) where
     pub index-ranged : (y : ℤ) (next : ℕ) → indexFrom k mode time x s at end ≡ got y next → inRange k mode y ≡ true
     unfolding indexFrom
     index-ranged y next q =
-        let w = split (expecting 32 (λ e. inRange k mode (added k mode x e)) (difference k mode time) s at end) (λ e. give (added k mode x e)) s end next y q in
+        let w = split (expecting 32 (λ e. inRange k mode (added k mode x e)) (difference k mode time) s at end)
+        (λ e. give (added k mode x e)) s end next y q in
         let v = tested-got (difference k mode time s at end) 32 (λ e. inRange k mode (added k mode x e)) at (w .1) (w .0) (w .2) in
         let z : added k mode x (w .0) ≡ y = same-value (w .3) in
         subst (λ (i : ℤ). inRange k mode i ≡ true) z (v .1)

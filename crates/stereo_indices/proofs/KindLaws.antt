@@ -134,7 +134,8 @@ added-abs k mode x e h g = go (isPhase k)
     go false = abs-add x (pos e -ℤ pos (middle k mode)) 128 90 g (difference-abs k mode e h)
 
 -- the code's difference and sum
-pub code-difference : (k : Kind) (mode e : ℕ) (m : ℤ) → e ≤ 60 → m ≡ pos (middle k mode) → toZ w16 e -ℤ toZ w16 (ofZ w16 m) ≡ pos e -ℤ pos (middle k mode)
+pub code-difference : (k : Kind) (mode e : ℕ) (m : ℤ) → e ≤ 60 → m ≡ pos (middle k mode)
+    → toZ w16 e -ℤ toZ w16 (ofZ w16 m) ≡ pos e -ℤ pos (middle k mode)
 code-difference k mode e m h q = let l : e < 2 ^ 15 = omega arith in rw (toZ-pos w16 e l, through w16 30 q (middle-le k mode) (omega arith))
 
 pub code-sum : (k : Kind) (mode e : ℕ) (x m : ℤ) → e ≤ 60 → SFits w8 x → m ≡ pos (middle k mode)
@@ -178,7 +179,8 @@ pub table-is : (k : Kind) (mode time : ℕ) → tableAt (differenceNumber k mode
 unfolding differenceNumber firstNumber differenceTable
 table-is Iid mode time = go (fine mode) (eqb time 1)
   where
-    go : (f t : Bool) → tableAt (pick f 14 12 + pick t 1 0) ≡ pick f (pick t levelFineTime levelFineFrequency) (pick t levelDefaultTime levelDefaultFrequency)
+    go : (f t : Bool) → tableAt (pick f 14 12 + pick t 1 0)
+        ≡ pick f (pick t levelFineTime levelFineFrequency) (pick t levelDefaultTime levelDefaultFrequency)
     go true true = refl
     go true false = refl
     go false true = refl
@@ -203,7 +205,8 @@ table-is Opd mode time = go (eqb time 1)
 pub of-table : (P : Table → Type 0) → ((i : ℕ) → i < 22 → P (tableAt i)) → (k : Kind) (mode time : ℕ) → P (differenceTable k mode time)
 of-table P f k mode time = subst P (table-is k mode time) (f (differenceNumber k mode time) (table-below k mode time))
 
-pub entry-le : (table : ℕ) (s : List ℕ) (at end e next : ℕ) → 12 ≤ table → table ≤ 21 → wordOf (tableAt table) s at end ≡ got e next → e ≤ 60
+pub entry-le : (table : ℕ) (s : List ℕ) (at end e next : ℕ) → 12 ≤ table → table ≤ 21 → wordOf (tableAt table) s at end ≡ got e next
+    → e ≤ 60
 entry-le table s at end e next h g q =
     let t : 12 + (table - 12) ≡ table = omega arith in
     let f = few-at (drop 12 tables) tt (table - 12) (omega arith) in

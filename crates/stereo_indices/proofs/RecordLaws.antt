@@ -13,11 +13,13 @@ use Rattle.stereo_indices.specs.declared.Kind.{Kind}
 
 module _ (k : Kind) (mode i : ℕ) (xs : List ℤ) where
   -- one index, and those after it
-  sound-next : i < length xs → soundFrom k mode i (drop i xs) ≡ soundIndex k mode i (getD xs i (pos 0)) && soundFrom k mode (i + 1) (drop (i + 1) xs)
+  sound-next : i < length xs
+      → soundFrom k mode i (drop i xs) ≡ soundIndex k mode i (getD xs i (pos 0)) && soundFrom k mode (i + 1) (drop (i + 1) xs)
   unfolding soundFrom
   sound-next h = rw (drop-cons xs i (pos 0) h, add-one)
 
-  pub sound-more : i < length xs → soundIndex k mode i (getD xs i (pos 0)) ≡ true → soundFrom k mode i (drop i xs) ≡ soundFrom k mode (i + 1) (drop (i + 1) xs)
+  pub sound-more : i < length xs → soundIndex k mode i (getD xs i (pos 0)) ≡ true
+      → soundFrom k mode i (drop i xs) ≡ soundFrom k mode (i + 1) (drop (i + 1) xs)
   sound-more h e = sound-next h ∙ rw e
 
   pub sound-stop : i < length xs → soundIndex k mode i (getD xs i (pos 0)) ≡ false → soundFrom k mode i (drop i xs) ≡ false

@@ -1,4 +1,5 @@
--- The lent state: its borrow is opened, which shows its machine value, and closed with another state in it. Nothing else in the context is touched.
+-- The lent state: its borrow is opened, which shows its machine value, and closed with another state in it. Nothing else in the context
+-- is touched.
 -- Assumes nothing.
 use Prim.Native.Nat.{ℕ}
 use mathlib.Core.List.{List, [], _∷_}
@@ -35,17 +36,23 @@ module _ {M : Type 1} (𝓤 : URA M) (H : Heap 𝓤) (A : Atoms 𝓤) (W : Given
   pub state-fits : (h : State) → StateIs h → Holds (hasTy S′.mir (state-val h)) × WT (state-val h)
   state-fits h is = LL.lawful S.the-type S′.the-laws 𝓤 H A W .typed h (state-val h ∷ []) is .0
 
-module _ {M : Type 1} {𝓤 : URA M} {H : Heap 𝓤} {A : Atoms 𝓤} {W : Given 𝓤 H A} {κ : Lft} {q : Share} {γ : GName} {Γ : List (Item 𝓤)} {G : Goal 𝓤 H} where
+module _ {M : Type 1} {𝓤 : URA M} {H : Heap 𝓤} {A : Atoms 𝓤} {W : Given 𝓤 H A} {κ : Lft} {q : Share} {γ : GName} {Γ : List (Item 𝓤)}
+    {G : Goal 𝓤 H} where
   -- [obs; the borrow; its token; …]: then [the state's cell; the open borrow; obs; auth; …]
   pub opened : Soaks G → (b o : ℕ) (h : State)
-      → (StateIs h → Sq W (‵ (cellAt fullShare (S.the-row .mir) (state-val h ∷ []) b o) ∷ ‵ (fobor κ q (Body (mem S.the-row) b o γ)) ∷ ‵ (fobs γ (S.the-row .coded .code h)) ∷ ‵ (fauth γ (S.the-row .coded .code h)) ∷ Γ) G)
+      → (StateIs h → Sq W (‵ (cellAt fullShare (S.the-row .mir) (state-val h ∷ []) b o) ∷ ‵ (fobor κ q (Body (mem S.the-row) b o γ)) ∷ ‵
+      (fobs γ (S.the-row .coded .code h)) ∷ ‵ (fauth γ (S.the-row .coded .code h)) ∷ Γ) G)
       → Sq W (‵ (fobs γ (S.the-row .coded .code h)) ∷ ‵ (fbor κ (Body (mem S.the-row) b o γ)) ∷ ‵ (flft κ q) ∷ Γ) G
   opened soaks b o h then =
-      opens ! soaks S.the-row {h = h} b o (λ vs. spelt ! S.the-row (Is S.the-row) (shows 𝓤 H A S.the-row) (λ h. state-val h ∷ []) state-tells fullShare h vs b o $
+      opens ! soaks S.the-row {h = h} b o
+      (λ vs. spelt ! S.the-row (Is S.the-row) (shows 𝓤 H A S.the-row) (λ h. state-val h ∷ []) state-tells fullShare h vs b o $
       move ! (1 ∷ []) $ peeks ! S.the-row (Is S.the-row) (shows 𝓤 H A S.the-row) h (state-val h ∷ []) (λ is. drop ! $ then is))
 
   -- and back, where the cell holds h
   pub closed : Soaks G → (b o : ℕ) (h h′ : State) → StateIs h
       → Step (Go {0}) W (‵ (fobs γ (S.the-row .coded .code h)) ∷ ‵ (fbor κ (Body (mem S.the-row) b o γ)) ∷ ‵ (flft κ q) ∷ Γ) G
-      (‵ (cellAt fullShare (S.the-row .mir) (state-val h ∷ []) b o) ∷ ‵ (fobor κ q (Body (mem S.the-row) b o γ)) ∷ ‵ (fobs γ (S.the-row .coded .code h′)) ∷ ‵ (fauth γ (S.the-row .coded .code h′)) ∷ Γ) G
-  closed soaks b o h h′ is = step (λ then. owned ! S.the-row (Is S.the-row) (LL.makes S.the-type S′.the-plain 𝓤 H A) h _ is $ move ! (1 ∷ 0 ∷ []) $ closes ! soaks S.the-row h (state-val h ∷ []) b o $ then)
+      (‵ (cellAt fullShare (S.the-row .mir) (state-val h ∷ []) b o) ∷ ‵ (fobor κ q (Body (mem S.the-row) b o γ)) ∷ ‵
+      (fobs γ (S.the-row .coded .code h′)) ∷ ‵ (fauth γ (S.the-row .coded .code h′)) ∷ Γ) G
+  closed soaks b o h h′ is =
+      step (λ then. owned ! S.the-row (Is S.the-row) (LL.makes S.the-type S′.the-plain 𝓤 H A) h _ is $ move !
+      (1 ∷ 0 ∷ []) $ closes ! soaks S.the-row h (state-val h ∷ []) b o $ then)

@@ -38,7 +38,8 @@ fn read_apart(state: State, bytes: &[u8], start: usize, end: usize) -> Apart
 
 // A payload in a range of a buffer: what it holds and how many bits it used; the lent state is then the next one.
 pub fn read(state: &mut State, bytes: &[u8], start: usize, end: usize) -> Answer
-    ensures { λ r. ⌜ (r ≡ answerOf (readFrom (now (state .entry)) (now (bytes .entry)) start end)) × (now (state .exit) ≡ readFrom (now (state .entry)) (now (bytes .entry)) start end .state) ⌝ }
+    ensures { λ r. ⌜ (r ≡ answerOf (readFrom (now (state .entry)) (now (bytes .entry)) start end))
+        × (now (state .exit) ≡ readFrom (now (state .entry)) (now (bytes .entry)) start end .state) ⌝ }
 {
     let a = read_apart(*state, bytes, start, end);
     *state = a.state;

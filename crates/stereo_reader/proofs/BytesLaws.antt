@@ -15,16 +15,19 @@ use Rattle.stereo.specs.declared.Contents.{Contents}
 use Rattle.stereo.proofs.PayloadNear.{whole-near}
 
 module _ (st : State) (s : List ℕ) where
-  pub bytes-left : (c : Contents) (next : ℕ) → payload (from st) s 0 (8 * min (length s) 1025) ≡ got c next → 7 < 8 * min (length s) 1025 - next
+  pub bytes-left : (c : Contents) (next : ℕ) → payload (from st) s 0 (8 * min (length s) 1025) ≡ got c next
+      → 7 < 8 * min (length s) 1025 - next
       → refusal 12 (lost st) ≡ readBytes st s
   unfolding readBytes ended
   bytes-left c next q h = rw (← whole-near (from st) s, q, lt-leb _ _ h)
 
-  pub bytes-got : (c : Contents) (next : ℕ) → payload (from st) s 0 (8 * min (length s) 1025) ≡ got c next → 8 * min (length s) 1025 - next ≤ 7
+  pub bytes-got : (c : Contents) (next : ℕ) → payload (from st) s 0 (8 * min (length s) 1025) ≡ got c next
+      → 8 * min (length s) 1025 - next ≤ 7
       → taken st c next ≡ readBytes st s
   unfolding readBytes ended
   bytes-got c next q h = rw (← whole-near (from st) s, q, le-leb _ _ h)
 
-  pub bytes-refused : (n place : ℕ) → payload (from st) s 0 (8 * min (length s) 1025) ≡ refused n place → refusal n (lost st) ≡ readBytes st s
+  pub bytes-refused : (n place : ℕ) → payload (from st) s 0 (8 * min (length s) 1025) ≡ refused n place
+      → refusal n (lost st) ≡ readBytes st s
   unfolding readBytes
   bytes-refused n place q = rw (← whole-near (from st) s, q)

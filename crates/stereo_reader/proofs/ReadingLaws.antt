@@ -1,4 +1,5 @@
--- Laws of the stereo reader: no byte outside the range counts; a cut is refused with 10, in step and out of step; a report leaves a sound state.
+-- Laws of the stereo reader: no byte outside the range counts; a cut is refused with 10, in step and out of step; a report leaves a
+-- sound state.
 -- Assumes nothing.
 use Prim.Native.Nat.{ℕ, _*_, _<_}
 use mathlib.Core.Path.{_≡_, _∙_}
@@ -16,7 +17,8 @@ use Rattle.stereo.proofs.PayloadLaws.{payload-cut}
 use Rattle.stereo.proofs.StateLaws.{lost-sound}
 
 -- two ranges of the same bytes are read alike, whatever stands around them
-pub outside-counts-not : (st : State) (b b′ : List ℕ) (start end start′ end′ : ℕ) → inBuffer start end (length b) ≡ true → inBuffer start′ end′ (length b′) ≡ true
+pub outside-counts-not : (st : State) (b b′ : List ℕ) (start end start′ end′ : ℕ) → inBuffer start end (length b) ≡ true
+    → inBuffer start′ end′ (length b′) ≡ true
     → range b start end ≡ range b′ start′ end′ → readFrom st b start end ≡ readFrom st b′ start′ end′
 unfolding readFrom
 outside-counts-not st b b′ start end start′ end′ h k e = rw (h, k, e)

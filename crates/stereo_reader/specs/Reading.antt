@@ -24,7 +24,8 @@ refusal n st = record { number = n; bits = 0; contents = noContents; state = st 
 
 -- what was read is accepted in step, or where it is a restart; else 35
 unfoldable pub taken : State → Contents → ℕ → Reading
-taken st c bits = pick (st .instep || restart c) (record { number = 0; bits = bits; contents = c; state = carried (from st) c }) (refusal 35 (lost st))
+taken st c bits = pick (st .instep || restart c) (record { number = 0; bits = bits; contents = c; state = carried (from st) c })
+    (refusal 35 (lost st))
 
 -- a refusal from the payload's bits on touches only the mark
 abbrev pub readingOf : State → Answer Contents → Reading

@@ -33,7 +33,8 @@ abbrev pub codeStep : ℤ → ℤ → ℤ → ℤ
 codeStep x y m = toZ w16 (ofZ w16 (wide y -ℤ wide x)) +ℤ toZ w16 (ofZ w16 m)
 
 pub step-is : (k : Kind) (mode : ℕ) (x y m : ℤ) → SFits w8 x → SFits w8 y → m ≡ pos (middle k mode) → codeStep x y m ≡ step k mode x y
-step-is k mode x y m f g e = rw (through w16 256 (gap-is x y f g) (gap-abs x y f g) (omega arith), through w16 30 e (middle-le k mode) (omega arith))
+step-is k mode x y m f g e =
+    rw (through w16 256 (gap-is x y f g) (gap-abs x y f g) (omega arith), through w16 30 e (middle-le k mode) (omega arith))
 
 pub step-abs : (k : Kind) (mode : ℕ) (x y : ℤ) → SFits w8 x → SFits w8 y → natAbs (step k mode x y) ≤ 286
 step-abs k mode x y f g = abs-add (y -ℤ x) (pos (middle k mode)) 256 30 (gap-abs x y f g) (middle-le k mode)
@@ -41,5 +42,6 @@ step-abs k mode x y f g = abs-add (y -ℤ x) (pos (middle k mode)) 256 30 (gap-a
 pub step-fits : (k : Kind) (mode : ℕ) (x y m : ℤ) → SFits w8 x → SFits w8 y → m ≡ pos (middle k mode) → SFits w16 (codeStep x y m)
 step-fits k mode x y m f g e = rw (step-is k mode x y m f g e) (fits 286 (step-abs k mode x y f g) (omega arith))
 
-pub step-thru : (k : Kind) (mode : ℕ) (x y m : ℤ) → SFits w8 x → SFits w8 y → m ≡ pos (middle k mode) → toZ w16 (ofZ w16 (codeStep x y m)) ≡ step k mode x y
+pub step-thru : (k : Kind) (mode : ℕ) (x y m : ℤ) → SFits w8 x → SFits w8 y → m ≡ pos (middle k mode)
+    → toZ w16 (ofZ w16 (codeStep x y m)) ≡ step k mode x y
 step-thru k mode x y m f g e = through w16 286 (step-is k mode x y m f g e) (step-abs k mode x y f g) (omega arith)

@@ -29,7 +29,8 @@ module _ {A : Type 0} (same : A → A → Bool) (z : A) where
   step zero (x ∷ xs) (y ∷ ys) h g e = rw e
   step (suc i) (x ∷ xs) (y ∷ ys) h g e = step i xs ys (omega arith) (omega arith) e
 
-  stop : (i : ℕ) (xs ys : List A) → i < length xs → i < length ys → same (getD xs i z) (getD ys i z) ≡ false → sameList same (drop i xs) (drop i ys) ≡ false
+  stop : (i : ℕ) (xs ys : List A) → i < length xs → i < length ys → same (getD xs i z) (getD ys i z) ≡ false
+      → sameList same (drop i xs) (drop i ys) ≡ false
   stop i [] ys h g e = absurd (omega arith)
   stop i (x ∷ xs) [] h g e = absurd (omega arith)
   stop zero (x ∷ xs) (y ∷ ys) h g e = rw e
@@ -48,7 +49,8 @@ module _ {A : Type 0} (same : A → A → Bool) (z : A) where
         rest = s .rest ∙ rw k (step i xs ys (omega (arith, s .first)) (omega (arith, s .second)) e);
       }
 
-  pub same-stop : {n i : ℕ} {xs ys : List A} → SoFar n i xs ys → i < n → same (getD xs i z) (getD ys i z) ≡ false → false ≡ sameList same xs ys
+  pub same-stop : {n i : ℕ} {xs ys : List A} → SoFar n i xs ys → i < n → same (getD xs i z) (getD ys i z) ≡ false
+      → false ≡ sameList same xs ys
   same-stop {n} {i} {xs} {ys} s h e = sym (s .rest ∙ stop i xs ys (omega (arith, s .first)) (omega (arith, s .second)) e)
 
   pub same-done : {n i : ℕ} {xs ys : List A} → SoFar n i xs ys → n ≤ i → true ≡ sameList same xs ys

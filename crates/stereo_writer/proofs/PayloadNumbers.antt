@@ -13,7 +13,9 @@ use Rattle.bits.specs.Inside.{Fill, leftOver}
 use Rattle.bits.specs.Places.{here, refuseAt}
 use Rattle.bits.specs.Payload.{whole}
 use Rattle.bits.proofs.Bools.{true-false}
-use Rattle.bits.proofs.Numbered.{Numbered, give-numbered, here-numbered, refusing-numbered, field-numbered, zeroBit-numbered, bind-numbered, expecting-numbered, pick-numbered, listed-numbered, leftOver-numbered, inside-numbered, whole-numbered}
+use Rattle.bits.proofs.Numbered.{Numbered, give-numbered, here-numbered, refusing-numbered, field-numbered, zeroBit-numbered}
+use Rattle.bits.proofs.Numbered.{bind-numbered, expecting-numbered, pick-numbered, listed-numbered, leftOver-numbered, inside-numbered}
+use Rattle.bits.proofs.Numbered.{whole-numbered}
 use Rattle.words.proofs.WordNumbered.{word-numbered}
 use Rattle.tables.specs.Tables.{codesOf, lensOf, wordOf}
 use Rattle.tables.specs.Names.{tableAt}
@@ -78,7 +80,8 @@ frame-own = search owns depth 24
 
 difference-own : (k : Kind) (mode time : ℕ) → Numbered own (difference k mode time)
 unfolding difference
-difference-own = of-table (λ t. Numbered own (wordOf t)) λ i h. word-numbered own refl (codesOf (tableAt i)) (lensOf (tableAt i)) (ruled-at i h)
+difference-own = of-table (λ t. Numbered own (wordOf t)) λ i h.
+    word-numbered own refl (codesOf (tableAt i)) (lensOf (tableAt i)) (ruled-at i h)
 
 row-own : (k : Kind) (mode : ℕ) (h : Record) → Numbered own (row k mode h)
 unfolding row indices index indexFrom
@@ -112,7 +115,8 @@ part-own mode ipd opd n =
 
 announced-own : (mode : ℕ) (ipd opd : Record) (n size : ℕ) → Numbered own (announced mode ipd opd n size)
 unfolding announced
-announced-own mode ipd opd n size = pick-own (eqb size 0) _ _ (give-own _) (inside-numbered own (8 * size) 33 (part mode ipd opd n) refl refl (part-own mode ipd opd n))
+announced-own mode ipd opd n size =
+    pick-own (eqb size 0) _ _ (give-own _) (inside-numbered own (8 * size) 33 (part mode ipd opd n) refl refl (part-own mode ipd opd n))
 
 extension-own : (on : Bool) (mode : ℕ) (ipd opd : Record) (n : ℕ) → Numbered own (extension on mode ipd opd n)
 unfolding extension extensionSent escCount

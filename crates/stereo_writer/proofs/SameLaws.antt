@@ -8,7 +8,8 @@ use lib.Dec.{eqb}
 use lib.IntN.{ℤ, pos, negsuc}
 use borrow.Author.Tests.{eqb-true, eq-eqb}
 use Rattle.bits.proofs.Bools.{and-both, true-false, and-of}
-use Rattle.stereo_writer.specs.Same.{sameList, sameIndex, sameRow, samePhases, sameBody, samePart, sameExtension, sameHeader, sameFrame, sameContents}
+use Rattle.stereo_writer.specs.Same.{sameList, sameIndex, sameRow, samePhases, sameBody, samePart, sameExtension, sameHeader}
+use Rattle.stereo_writer.specs.Same.{sameFrame, sameContents}
 
 -- a test of sameness that is right
 pub record Right {A : Type 0} (same : A → A → Bool) : Type 0 where
@@ -132,7 +133,8 @@ header-right = record {
       let u = eqb-true (a .ext) (b .ext) (x₆ .1) in
       λ i. record { there = p i; iid = q i; iidmode = r i; icc = s i; iccmode = t i; ext = u i };
   self = λ a.
-      rw (same-number (a .there), same-number (a .iid), same-number (a .iidmode), same-number (a .icc), same-number (a .iccmode)) (same-number (a .ext));
+      rw (same-number (a .there), same-number (a .iid), same-number (a .iidmode), same-number (a .icc), same-number (a .iccmode))
+      (same-number (a .ext));
 }
 
 frame-right : Right sameFrame
@@ -167,6 +169,11 @@ contents-right = record {
       let t = extension-right .is (a .extension) (b .extension) (x₅ .1) in
       λ i. record { header = p i; frame = q i; iid = r i; icc = s i; extension = t i };
   self = λ a.
-      rw (header-right .self (a .header), frame-right .self (a .frame), list-right row-right .self (a .iid), list-right row-right .self (a .icc))
+      rw (
+        header-right .self (a .header),
+        frame-right .self (a .frame),
+        list-right row-right .self (a .iid),
+        list-right row-right .self (a .icc),
+      )
       (extension-right .self (a .extension));
 }

@@ -16,7 +16,8 @@ use Rattle.bits.specs.Loop.{listed}
 use Rattle.bits.specs.Inside.{inside}
 use Rattle.bits.specs.Pieces.{Piece}
 use Rattle.bits.proofs.Bools.{true-false}
-use Rattle.bits.proofs.Spelt.{Spelt, told, respelt, give-spelt, bind-spelt, field-spelt, expecting-spelt, pick-spelt, listed-spelt, here-spelt, refuseAt-spelt, leftOver-spelt, inside-spelt, Filled}
+use Rattle.bits.proofs.Spelt.{Spelt, told, respelt, give-spelt, bind-spelt, field-spelt, expecting-spelt, pick-spelt, listed-spelt}
+use Rattle.bits.proofs.Spelt.{here-spelt, refuseAt-spelt, leftOver-spelt, inside-spelt, Filled}
 use Rattle.bits.specs.Spelled.{spellEach, spellFill}
 use Rattle.tables.specs.Tables.{codesOf, lensOf}
 use Rattle.tables.specs.Names.{phaseFrequency, phaseTime, overallPhaseFrequency, overallPhaseTime}
@@ -32,7 +33,8 @@ use Rattle.stereo_indices.specs.declared.Kind.the-variants.{Iid, Icc, Ipd, Opd}
 use Rattle.stereo_indices.specs.declared.Record.{Record}
 use Rattle.stereo.specs.Header.{noHeader, mode, switch, headerFields, header, setupAfter}
 use Rattle.stereo.specs.Frame.{envelopeCount, noBorders, bordersOf, borders, frame}
-use Rattle.stereo.specs.Extension.{noPhases, noPart, ipds, opds, phasesIn, phasesNext, phasesOf, phases, phaseFlag, v0, another, part, announced, escCount, extensionSent, extension}
+use Rattle.stereo.specs.Extension.{noPhases, noPart, ipds, opds, phasesIn, phasesNext, phasesOf, phases, phaseFlag, v0, another, part}
+use Rattle.stereo.specs.Extension.{announced, escCount, extensionSent, extension}
 use Rattle.stereo.specs.Payload.{envelopes, payload}
 use Rattle.stereo.specs.declared.Setup.{Setup}
 use Rattle.stereo.specs.declared.State.{State}
@@ -41,7 +43,9 @@ use Rattle.stereo.specs.declared.Frame.{Frame}
 use Rattle.stereo.specs.declared.Phases.{Phases}
 use Rattle.stereo.specs.declared.Contents.{Contents}
 use Rattle.stereo.proofs.PayloadLaws.{part-filling}
-use Rattle.stereo_writer.specs.Spelling.{bitField, spellMode, spellFields, spellHeader, countIndex, spellBorder, spellBorders, spellFrame, entryTo, spellIndex, spellRow, spellRows, spellPhases, spellAllPhases, spellBody, spellPart, spellAnnounced, spellSent, spellExtension, spellingIn, spelling}
+use Rattle.stereo_writer.specs.Spelling.{bitField, spellMode, spellFields, spellHeader, countIndex, spellBorder, spellBorders}
+use Rattle.stereo_writer.specs.Spelling.{spellFrame, entryTo, spellIndex, spellRow, spellRows, spellPhases, spellAllPhases}
+use Rattle.stereo_writer.specs.Spelling.{spellBody, spellPart, spellAnnounced, spellSent, spellExtension, spellingIn, spelling}
 
 -- nothing more is known
 abbrev Any : {A : Type 0} → A → Type 0
@@ -49,7 +53,8 @@ Any a = Unit
 
 -- readings in a list, filled up to N places
 padded-spelt : {A : Type 0} {f : List A → Reader A} {w : List A → A → List Piece} (N : ℕ) (z : A)
-    → ((xs : List A) → Spelt (f xs) [] (w xs) Any) → (n : ℕ) → Spelt (listed n f >>= λ xs. give (padded N z xs)) [] (λ a. spellEach w [] (take n a)) Any
+    → ((xs : List A) → Spelt (f xs) [] (w xs) Any) → (n : ℕ)
+    → Spelt (listed n f >>= λ xs. give (padded N z xs)) [] (λ a. spellEach w [] (take n a)) Any
 padded-spelt {w = w} N z g n =
     bind-spelt (listed-spelt Any g n) λ xs o.
     give-spelt (ap (spellEach w []) (take-at xs (replicate (N - length xs) z) n (o .0))) tt
@@ -81,7 +86,8 @@ eight Opd mode time e = go (eqb time 1)
     go true = refl
     go false = refl
 
-entry-is : (k : Kind) (mode time : ℕ) (x : ℤ) (e : ℕ) → e < length (codesOf (differenceTable k mode time)) → entryTo k mode x (added k mode x e) ≡ e
+entry-is : (k : Kind) (mode time : ℕ) (x : ℤ) (e : ℕ) → e < length (codesOf (differenceTable k mode time))
+    → entryTo k mode x (added k mode x e) ≡ e
 unfolding entryTo added
 entry-is k mode time x e h = go (isPhase k) refl
   where
@@ -91,7 +97,8 @@ entry-is k mode time x e h = go (isPhase k) refl
     go true q = phase-back (natAbs x) e (omega (arith, eight k mode time q))
     go false q = entry-back x e (middle k mode)
 
-index-spelt : (k : Kind) (mode time : ℕ) (before xs : List ℤ) → Spelt (index k mode time before xs) [] (spellIndex k mode time before xs) Any
+index-spelt : (k : Kind) (mode time : ℕ) (before xs : List ℤ)
+    → Spelt (index k mode time before xs) [] (spellIndex k mode time before xs) Any
 unfolding index indexFrom difference
 index-spelt k mode time before xs =
     let t = differenceTable k mode time in
@@ -157,7 +164,8 @@ unfolding borders bordersOf spellBorders
 borders-spelt class n = go (eqb class 1)
   where
     go : (b : Bool)
-        → Spelt (pick b (listed n (λ bs. field 5) >>= λ bs. give (padded 4 0 bs)) (give noBorders)) [] (λ bs. pick b (spellEach spellBorder [] (take n bs)) []) Any
+        → Spelt (pick b (listed n (λ bs. field 5) >>= λ bs. give (padded 4 0 bs)) (give noBorders)) []
+        (λ bs. pick b (spellEach spellBorder [] (take n bs)) []) Any
     go true = padded-spelt 4 0 (λ bs. told refl (λ m o. tt) (field-spelt 5)) n
     go false = give-spelt refl tt
 
@@ -166,7 +174,8 @@ unfolding countIndex envelopeCount
 count-back class i h = go (eqb class 1) i h
   where
     go : (b : Bool) (i : ℕ) → i < 4
-        → pick b (min (pick b (i + 1) (pick (eqb i 3) 4 i)) 4 - 1) (pick (eqb (pick b (i + 1) (pick (eqb i 3) 4 i)) 4) 3 (min (pick b (i + 1) (pick (eqb i 3) 4 i)) 4)) ≡ i
+        → pick b (min (pick b (i + 1) (pick (eqb i 3) 4 i)) 4 - 1)
+        (pick (eqb (pick b (i + 1) (pick (eqb i 3) 4 i)) 4) 3 (min (pick b (i + 1) (pick (eqb i 3) 4 i)) 4)) ≡ i
     go true i l = omega arith
     go false zero l = refl
     go false (suc zero) l = refl
@@ -183,7 +192,8 @@ frame-spelt =
     give-spelt (rw (count-back class i l)) tt
 
 -- the extension
-phases-spelt : (mode : ℕ) (ipd opd : Record) (done : List Phases) → Spelt (phasesNext mode ipd opd done) [] (spellPhases mode ipd opd done) Any
+phases-spelt : (mode : ℕ) (ipd opd : Record) (done : List Phases)
+    → Spelt (phasesNext mode ipd opd done) [] (spellPhases mode ipd opd done) Any
 unfolding phasesIn
 phases-spelt mode ipd opd done =
     bind-spelt (row-spelt Ipd mode (recordAfterRows ipd mode (ipds done))) λ a _.
@@ -226,7 +236,8 @@ part-spelt mode ipd opd n =
     bind-spelt (leftOver-spelt 7 another-spelt) λ fill o.
     give-spelt (let q : min (fill .count) 7 ≡ fill .count = omega arith in rw q) tt
 
-announced-spelt : (mode : ℕ) (ipd opd : Record) (n size : ℕ) → Spelt (announced mode ipd opd n size) [] (spellAnnounced mode ipd opd n size) Any
+announced-spelt : (mode : ℕ) (ipd opd : Record) (n size : ℕ)
+    → Spelt (announced mode ipd opd n size) [] (spellAnnounced mode ipd opd n size) Any
 unfolding announced spellAnnounced
 announced-spelt mode ipd opd n size = go (eqb size 0)
   where
@@ -243,7 +254,8 @@ esc-spelt size = go (eqb size 15)
     go true = told refl (λ m o. tt) (field-spelt 8)
     go false = give-spelt refl tt
 
-extension-spelt : (on : Bool) (mode : ℕ) (ipd opd : Record) (n : ℕ) → Spelt (extension on mode ipd opd n) [] (spellExtension on mode ipd opd n) Any
+extension-spelt : (on : Bool) (mode : ℕ) (ipd opd : Record) (n : ℕ)
+    → Spelt (extension on mode ipd opd n) [] (spellExtension on mode ipd opd n) Any
 unfolding extension extensionSent spellExtension spellSent
 extension-spelt true mode ipd opd n =
     bind-spelt (field-spelt 4) λ size _.
@@ -271,7 +283,8 @@ payload-spelt st =
   where
     -- the header that was read is the contents' own
     spelled : (after : Header → Setup) (h : Header) {r : Reader Contents} {before : List Piece}
-        → Spelt r before (spellingIn st (after h)) (λ c. c .header ≡ h) → Spelt r before (λ c. spellingIn st (after (c .header)) c) (λ c. c .header ≡ h)
+        → Spelt r before (spellingIn st (after h)) (λ c. c .header ≡ h)
+        → Spelt r before (λ c. spellingIn st (after (c .header)) c) (λ c. c .header ≡ h)
     spelled after h g = record {
       law = λ s at end next c q.
           let x = g .law s at end next c q in

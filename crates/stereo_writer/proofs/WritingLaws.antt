@@ -1,4 +1,5 @@
--- The round trips: what is written is read to the same contents, count and state; what was read is written back to the bits that it used. And 40
+-- The round trips: what is written is read to the same contents, count and state; what was read is written back to the bits that it
+-- used. And 40
 -- is given exactly where no payload has the contents.
 -- Assumes nothing.
 use Prim.Native.Nat.{ℕ, _*_, _<_, _≤_}
@@ -38,36 +39,44 @@ use Rattle.stereo_writer.proofs.SameLaws.{contents-right}
 -- contents that can be written are those of some payload, and contents that can't are of none
 pub can-write : (st : State) (c : Contents) → canWrite st c ≡ true → ReadTo (payload st) c
 unfolding canWrite
-can-write st = can (payload st) (spelling st) (λ c. Unit) (payload-lawful st) (payload-spelt st) sameContents (contents-right .is) (contents-right .self)
+can-write st = can (payload st) (spelling st) (λ c. Unit) (payload-lawful st) (payload-spelt st) sameContents (contents-right .is)
+    (contents-right .self)
 
 pub cannot-write : (st : State) (c : Contents) → canWrite st c ≡ false → ReadTo (payload st) c → ⊥
 unfolding canWrite
-cannot-write st = cannot (payload st) (spelling st) (λ c. Unit) (payload-lawful st) (payload-spelt st) sameContents (contents-right .is) (contents-right .self)
+cannot-write st = cannot (payload st) (spelling st) (λ c. Unit) (payload-lawful st) (payload-spelt st) sameContents (contents-right .is)
+    (contents-right .self)
 
 -- their spelling is read to them, with every bit used
-spelling-is : (st : State) (c : Contents) → canWrite st c ≡ true → payload st (packed (spelling st c)) 0 (total (spelling st c)) ≡ got c (total (spelling st c))
+spelling-is : (st : State) (c : Contents) → canWrite st c ≡ true
+    → payload st (packed (spelling st c)) 0 (total (spelling st c)) ≡ got c (total (spelling st c))
 unfolding canWrite
-spelling-is st = written-read (payload st) (spelling st) (λ c. Unit) (payload-lawful st) (payload-spelt st) sameContents (contents-right .is) (contents-right .self)
+spelling-is st = written-read (payload st) (spelling st) (λ c. Unit) (payload-lawful st) (payload-spelt st) sameContents
+    (contents-right .is) (contents-right .self)
 
-pub bytes-read : (st : State) (c : Contents) → canWrite st c ≡ true → whole (payload st) (packed (spelling st c)) ≡ got c (total (spelling st c))
+pub bytes-read : (st : State) (c : Contents) → canWrite st c ≡ true
+    → whole (payload st) (packed (spelling st c)) ≡ got c (total (spelling st c))
 bytes-read st c e =
     let w = spelling st c in
     let l = packed-length (spelling st c) in
     whole-is (payload st) (packed w) (total w) c
-    (payload-lawful st .stable (packed w) 0 (total w) (total w) (8 * length (packed w)) c (omega arith) (spelling-is st c e) (omega arith)) (omega arith)
+    (payload-lawful st .stable (packed w) 0 (total w) (total w) (8 * length (packed w)) c (omega arith) (spelling-is st c e)
+    (omega arith)) (omega arith)
 
 -- contents that were read can be written
 pub read-can : (st : State) (s : List ℕ) (n : ℕ) (c : Contents) → whole (payload st) s ≡ got c n → canWrite st c ≡ true
 unfolding canWrite
 read-can st s n c e =
-    read-writable (payload st) (spelling st) (λ c. Unit) (payload-lawful st) (payload-spelt st) sameContents (contents-right .is) (contents-right .self) s
+    read-writable (payload st) (spelling st) (λ c. Unit) (payload-lawful st) (payload-spelt st) sameContents (contents-right .is)
+    (contents-right .self) s
     (8 * length s) n c (whole-got (payload st) s n c e .0)
 
 -- and are spelled in the bits that they used
 pub read-bits : (st : State) (s : List ℕ) (n : ℕ) (c : Contents) → whole (payload st) s ≡ got c n
     → (n ≡ total (spelling st c)) × ((i : ℕ) → i < n → bitAt (packed (spelling st c)) i ≡ bitAt s i)
 read-bits st s n c e =
-    gives-back (payload st) (spelling st) (λ c. Unit) (payload-lawful st) (payload-spelt st) s (8 * length s) n c (whole-got (payload st) s n c e .0)
+    gives-back (payload st) (spelling st) (λ c. Unit) (payload-lawful st) (payload-spelt st) s (8 * length s) n c
+    (whole-got (payload st) s n c e .0)
 
 -- what an accepted payload was read to
 pub record Accepted (st : State) (s : List ℕ) : Type 0 where
@@ -112,7 +121,8 @@ success st c room e =
   where
     made : Bool → Bool → Bool → Bool → Written
     made a b d f =
-        pick a (pick b (pick d (pick f (record { number = 0; bits = total (spelling (from st) c); state = carried (from st) c }) (unwritten 2 st)) (unwritten 35 st)) (unwritten 40 st))
+        pick a (pick b (pick d (pick f (record { number = 0; bits = total (spelling (from st) c); state = carried (from st) c })
+        (unwritten 2 st)) (unwritten 35 st)) (unwritten 40 st))
         (unwritten 4 st)
 
     go : (a : Bool) → sound st ≡ a → (b : Bool) → canWrite (from st) c ≡ b → (d : Bool) → (st .instep || restart c) ≡ d → (f : Bool)
@@ -125,14 +135,16 @@ success st c room e =
 
 -- what is written is accepted from the same state, with those contents, that bit count and the same next state
 pub write-read : (st : State) (c : Contents) (room : ℕ) → writing st c room .number ≡ 0
-    → readBytes st (packed (spelling (from st) c)) ≡ record { number = 0; bits = writing st c room .bits; contents = c; state = writing st c room .state }
+    → readBytes st (packed (spelling (from st) c))
+    ≡ record { number = 0; bits = writing st c room .bits; contents = c; state = writing st c room .state }
 unfolding readBytes taken
 write-read st c room e =
     let w = success st c room e in
     rw (bytes-read (from st) c (w .can), w .step, w .bits, w .state)
 
 -- writing an accepted payload's contents from the same state, into enough room, gives its count and state, and the bits that it used
-pub read-write : (st : State) (s : List ℕ) (room : ℕ) → sound st ≡ true → readBytes st s .number ≡ 0 → bytesFor (readBytes st s .bits) ≤ room
+pub read-write : (st : State) (s : List ℕ) (room : ℕ) → sound st ≡ true → readBytes st s .number ≡ 0
+    → bytesFor (readBytes st s .bits) ≤ room
     → (writing st (readBytes st s .contents) room ≡ record { number = 0; bits = readBytes st s .bits; state = readBytes st s .state })
     × ((i : ℕ) → i < readBytes st s .bits → bitAt (packed (spelling (from st) (readBytes st s .contents))) i ≡ bitAt s i)
 unfolding writing
@@ -146,10 +158,12 @@ read-write st s room h e l =
 -- 40, of a sound state, exactly where no payload that is read from it has these contents
 pub forty : (st : State) (c : Contents) (room : ℕ) → writing st c room .number ≡ 40 → ReadTo (payload (from st)) c → ⊥
 unfolding writing
-forty st c room e = cannot-write (from st) c (go (sound st) (canWrite (from st) c) refl (st .instep || restart c) (leb (bytesFor (total (spelling (from st) c))) room) e)
+forty st c room e = cannot-write (from st) c
+    (go (sound st) (canWrite (from st) c) refl (st .instep || restart c) (leb (bytesFor (total (spelling (from st) c))) room) e)
   where
     go : (a b : Bool) → canWrite (from st) c ≡ b → (d f : Bool)
-        → pick a (pick b (pick d (pick f (record { number = 0; bits = total (spelling (from st) c); state = carried (from st) c }) (unwritten 2 st)) (unwritten 35 st)) (unwritten 40 st))
+        → pick a (pick b (pick d (pick f (record { number = 0; bits = total (spelling (from st) c); state = carried (from st) c })
+        (unwritten 2 st)) (unwritten 35 st)) (unwritten 40 st))
         (unwritten 4 st) .number ≡ 40
         → canWrite (from st) c ≡ false
     go false b q d f k = absurd (omega arith)
@@ -158,7 +172,8 @@ forty st c room e = cannot-write (from st) c (go (sound st) (canWrite (from st) 
     go true true q true false k = absurd (omega arith)
     go true true q true true k = absurd (omega arith)
 
-pub forty-only : (st : State) (c : Contents) (room : ℕ) → sound st ≡ true → (ReadTo (payload (from st)) c → ⊥) → writing st c room ≡ unwritten 40 st
+pub forty-only : (st : State) (c : Contents) (room : ℕ) → sound st ≡ true → (ReadTo (payload (from st)) c → ⊥)
+    → writing st c room ≡ unwritten 40 st
 unfolding writing
 forty-only st c room h f = rw (h, cases (canWrite (from st) c) (λ e. f (can-write (from st) c e)))
   where
@@ -167,10 +182,12 @@ forty-only st c room h f = rw (h, cases (canWrite (from st) c) (λ e. f (can-wri
     cases false f = refl
 
 -- reading the scratch array back tells whether contents can be written
-pub spelled-can : (st : State) (c : Contents) {s : List ℕ} {n : ℕ} → s ≡ putAll (replicate 1536 0) 0 (spelling st c) → n ≡ total (spelling st c)
+pub spelled-can : (st : State) (c : Contents) {s : List ℕ} {n : ℕ} → s ≡ putAll (replicate 1536 0) 0 (spelling st c)
+    → n ≡ total (spelling st c)
     → n ≤ 10952 → matches sameContents (payload st s 0 n) c ≡ canWrite st c
 unfolding canWrite writable
 spelled-can st c e q h =
     rw (e, q)
     (ap (λ (a : Answer Contents). matches sameContents a c)
-    (scratch-read (payload st) (payload-lawful st) 1536 (spelling st c) (let l : total (spelling st c) ≤ 10952 = rw (← q) h in omega arith)))
+    (scratch-read (payload st) (payload-lawful st) 1536 (spelling st c)
+    (let l : total (spelling st c) ≤ 10952 = rw (← q) h in omega arith)))

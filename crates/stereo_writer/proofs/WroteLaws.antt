@@ -31,7 +31,8 @@ pub wrote-nothing : {most : ℕ} {out : List ℕ} {at : ℕ} {ps : List Piece} �
 wrote-nothing e = wrote-as wrote-none e
 
 -- one piece
-pub wrote-piece : {before after : List ℕ} {at v n most : ℕ} → after ≡ put before at v n → n ≤ most → Wrote most before at (piece v n ∷ []) (at + n) after
+pub wrote-piece : {before after : List ℕ} {at v n most : ℕ} → after ≡ put before at v n → n ≤ most
+    → Wrote most before at (piece v n ∷ []) (at + n) after
 unfolding putAll
 wrote-piece e h = record { holds = e; ends = omega arith; short = omega arith }
 
@@ -39,7 +40,8 @@ wrote-piece e h = record { holds = e; ends = omega arith; short = omega arith }
 pub wrote-then : {a b most : ℕ} {x y z : List ℕ} {at m n : ℕ} {ps qs : List Piece} → Wrote a x at ps m y → Wrote b y m qs n z → a + b ≤ most
     → Wrote most x at (ps ++ qs) n z
 wrote-then {x = x} {at = at} {m = m} {ps = ps} {qs = qs} p q h = record {
-  holds = q .holds ∙ ap (λ (l : List ℕ). putAll l m qs) (p .holds) ∙ ap (λ (k : ℕ). putAll (putAll x at ps) k qs) (p .ends) ∙ sym (put-all-more x at ps qs);
+  holds = q .holds ∙ ap (λ (l : List ℕ). putAll l m qs) (p .holds) ∙ ap (λ (k : ℕ). putAll (putAll x at ps) k qs) (p .ends)
+      ∙ sym (put-all-more x at ps qs);
   ends = omega (arith, p .ends, q .ends, total-append ps qs);
   short = omega (arith, p .short, q .short, total-append ps qs);
 }
@@ -62,7 +64,8 @@ each-suc w z done [] i h = absurd (omega arith)
 each-suc w z done (x ∷ xs) zero h = rw (append-nil, append-nil)
 each-suc w z done (x ∷ xs) (suc i) h =
     append-assoc (w done x) _ _
-    ∙ ap (λ (ps : List Piece). w done x ++ ps) (rw (append-assoc done (x ∷ []) (take i xs)) at (each-suc w z (done ++ x ∷ []) xs i (omega arith)))
+    ∙ ap (λ (ps : List Piece). w done x ++ ps)
+    (rw (append-assoc done (x ∷ []) (take i xs)) at (each-suc w z (done ++ x ∷ []) xs i (omega arith)))
 
 pub each-more : {A : Type 0} (w : List A → A → List Piece) (z : A) (xs : List A) (i : ℕ) → i < length xs
     → spellEach w [] (take i xs) ++ w (take i xs) (getD xs i z) ≡ spellEach w [] (take (i + 1) xs)
@@ -77,11 +80,15 @@ pub taken-whole : {A : Type 0} (m n : ℕ) (xs : List A) → length xs ≤ m →
 taken-whole m n xs h g = take-all m xs h ∙ sym (take-all n xs g)
 
 -- the record after one more of what holds a row: f is the row that it holds, g the rows that a list of them holds
-module _ {A : Type 0} (f : A → Row) (g : List A → List Row) (none : g [] ≡ []) (each : (x : A) (xs : List A) → g (x ∷ xs) ≡ f x ∷ g xs) where
-  record-suc : (h : Record) (mode : ℕ) (xs : List A) (k : ℕ) (z : A) → k < length xs → recordAfterRows h mode (g (take (suc k) xs)) ≡ recordOf mode (f (getD xs k z) .indices)
+module _ {A : Type 0} (f : A → Row) (g : List A → List Row) (none : g [] ≡ [])
+    (each : (x : A) (xs : List A) → g (x ∷ xs) ≡ f x ∷ g xs) where
+  record-suc : (h : Record) (mode : ℕ) (xs : List A) (k : ℕ) (z : A) → k < length xs
+      → recordAfterRows h mode (g (take (suc k) xs)) ≡ recordOf mode (f (getD xs k z) .indices)
   record-suc h mode [] k z l = absurd (omega arith)
   record-suc h mode (x ∷ xs) zero z l = rw (each x [], none)
-  record-suc h mode (x ∷ xs) (suc k) z l = rw (each x (take (suc k) xs)) (record-suc (recordOf mode (f x .indices)) mode xs k z (omega arith))
+  record-suc h mode (x ∷ xs) (suc k) z l =
+      rw (each x (take (suc k) xs)) (record-suc (recordOf mode (f x .indices)) mode xs k z (omega arith))
 
-  pub record-more : (h : Record) (mode : ℕ) (xs : List A) (k : ℕ) (z : A) → k < length xs → recordOf mode (f (getD xs k z) .indices) ≡ recordAfterRows h mode (g (take (k + 1) xs))
+  pub record-more : (h : Record) (mode : ℕ) (xs : List A) (k : ℕ) (z : A) → k < length xs
+      → recordOf mode (f (getD xs k z) .indices) ≡ recordAfterRows h mode (g (take (k + 1) xs))
   record-more h mode xs k z l = let e : k + 1 ≡ suc k = omega arith in rw e (sym (record-suc h mode xs k z l))

@@ -1,4 +1,5 @@
--- For contracts of inner functions only: what a part of the writer does to the scratch array: pieces are put at a place, the place after them comes back, and there are not too many.
+-- For contracts of inner functions only: what a part of the writer does to the scratch array: pieces are put at a place, the place
+-- after them comes back, and there are not too many.
 use Prim.Native.Nat.{ℕ, _+_, _≤_}
 use mathlib.Core.Path.{_≡_}
 use mathlib.Core.List.{List}

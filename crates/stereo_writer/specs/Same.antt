@@ -42,7 +42,8 @@ sameExtension a b = eqb (a .there) (b .there) && eqb (a .size) (b .size) && eqb 
 
 unfoldable pub sameHeader : Header → Header → Bool
 sameHeader a b =
-    eqb (a .there) (b .there) && eqb (a .iid) (b .iid) && eqb (a .iidmode) (b .iidmode) && eqb (a .icc) (b .icc) && eqb (a .iccmode) (b .iccmode)
+    eqb (a .there) (b .there) && eqb (a .iid) (b .iid) && eqb (a .iidmode) (b .iidmode) && eqb (a .icc) (b .icc) && eqb (a .iccmode)
+    (b .iccmode)
     && eqb (a .ext) (b .ext)
 
 unfoldable pub sameFrame : Frame → Frame → Bool
@@ -50,5 +51,6 @@ sameFrame a b = eqb (a .class) (b .class) && eqb (a .envelopes) (b .envelopes) &
 
 unfoldable pub sameContents : Contents → Contents → Bool
 sameContents a b =
-    sameHeader (a .header) (b .header) && sameFrame (a .frame) (b .frame) && sameList sameRow (a .iid) (b .iid) && sameList sameRow (a .icc) (b .icc)
+    sameHeader (a .header) (b .header) && sameFrame (a .frame) (b .frame) && sameList sameRow (a .iid) (b .iid) && sameList sameRow
+    (a .icc) (b .icc)
     && sameExtension (a .extension) (b .extension)

@@ -55,7 +55,8 @@ unfoldable pub spellBorders : ℕ → ℕ → List ℕ → List Piece
 spellBorders class n bs = pick (eqb class 1) (spellEach spellBorder [] (take n bs)) []
 
 unfoldable pub spellFrame : Frame → List Piece
-spellFrame fr = bitField (fr .class) 1 ++ bitField (countIndex (fr .class) (fr .envelopes)) 2 ++ spellBorders (fr .class) (fr .envelopes) (fr .borders)
+spellFrame fr = bitField (fr .class) 1 ++ bitField (countIndex (fr .class) (fr .envelopes)) 2 ++ spellBorders (fr .class)
+    (fr .envelopes) (fr .borders)
 
 -- the entry whose difference leads from one index to another
 unfoldable pub entryTo : Kind → ℕ → ℤ → ℤ → ℕ
@@ -77,7 +78,8 @@ spellRows k on mode h n rs = pick on (spellEach (spellNext k mode h) [] (take n 
 
 -- the extension: phases of n envelopes, v0, its fill bits, its size
 abbrev pub spellPhases : ℕ → Record → Record → List Phases → Phases → List Piece
-spellPhases mode ipd opd done p = spellRow Ipd mode (recordAfterRows ipd mode (ipds done)) (p .ipd) ++ spellRow Opd mode (recordAfterRows opd mode (opds done)) (p .opd)
+spellPhases mode ipd opd done p =
+    spellRow Ipd mode (recordAfterRows ipd mode (ipds done)) (p .ipd) ++ spellRow Opd mode (recordAfterRows opd mode (opds done)) (p .opd)
 
 unfoldable pub spellAllPhases : ℕ → ℕ → Record → Record → ℕ → List Phases → List Piece
 spellAllPhases on mode ipd opd n ps = pick (eqb on 1) (spellEach (spellPhases mode ipd opd) [] (take n ps)) []

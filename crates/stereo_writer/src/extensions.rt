@@ -30,7 +30,8 @@ fn put_phases(
     lens: &[u8],
 ) -> usize
     requires { ⌜ Room 1420 at (now out) × Tables (now codes) (now lens) ⌝ }
-    ensures { λ r. ⌜ Wrote 1362 (now (out .entry)) at (spellRow Ipd mode ipd (phases .ipd) ++ spellRow Opd mode opd (phases .opd)) r (now (out .exit)) ⌝ }
+    ensures { λ r. ⌜ Wrote 1362 (now (out .entry)) at (spellRow Ipd mode ipd (phases .ipd) ++ spellRow Opd mode opd (phases .opd)) r
+        (now (out .exit)) ⌝ }
 {
     let first = phases.ipd;
     let place = put_row(out, at, Kind::Ipd, mode, ipd, first, codes, lens);
@@ -51,7 +52,8 @@ fn put_all_phases(
     lens: &[u8],
 ) -> usize
     requires { ⌜ Room 5700 at (now out) × Tables (now codes) (now lens) ⌝ }
-    ensures { λ r. ⌜ Wrote 5448 (now (out .entry)) at (spellAllPhases on mode (records .ipd) (records .opd) n phases) r (now (out .exit)) ⌝ }
+    ensures { λ r. ⌜ Wrote 5448 (now (out .entry)) at (spellAllPhases on mode (records .ipd) (records .opd) n phases) r
+        (now (out .exit)) ⌝ }
 {
     if on != 1 {
         return at;
@@ -121,7 +123,8 @@ fn put_announced(
     lens: &[u8],
 ) -> usize
     requires { ⌜ Room 5840 at (now out) × Tables (now codes) (now lens) ⌝ }
-    ensures { λ r. ⌜ Wrote 5459 (now (out .entry)) at (pick empty [] (spellPart mode (records .ipd) (records .opd) n part)) r (now (out .exit)) ⌝ }
+    ensures { λ r. ⌜ Wrote 5459 (now (out .entry)) at (pick empty [] (spellPart mode (records .ipd) (records .opd) n part)) r
+        (now (out .exit)) ⌝ }
 {
     if empty {
         return at;

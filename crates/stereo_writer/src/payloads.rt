@@ -24,7 +24,8 @@ fn put_levels(
     lens: &[u8],
 ) -> usize
     requires { ⌜ Room 12288 0 (now out) × Tables (now codes) (now lens) ⌝ }
-    ensures { λ r. ⌜ Wrote 2757 (now (out .entry)) 0 (spellHeader (contents .header) ++ spellFrame (contents .frame) ++ spellRows Iid (setup .iid) (setup .iidmode) (state .iid) (contents .frame .envelopes) (contents .iid)) r (now (out .exit)) ⌝ }
+    ensures { λ r. ⌜ Wrote 2757 (now (out .entry)) 0 (spellHeader (contents .header) ++ spellFrame (contents .frame) ++ spellRows Iid
+        (setup .iid) (setup .iidmode) (state .iid) (contents .frame .envelopes) (contents .iid)) r (now (out .exit)) ⌝ }
 {
     let header = contents.header;
     let a = fields::put_header(out, 0, header);

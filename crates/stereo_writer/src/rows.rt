@@ -75,7 +75,8 @@ fn put_indices(
     lens: &[u8],
 ) -> usize
     requires { ⌜ Room 700 at (now out) × Tables (now codes) (now lens) ⌝ }
-    ensures { λ r. ⌜ Wrote 680 (now (out .entry)) at (spellEach (spellIndex kind mode time before) [] (take (bands kind mode) xs)) r (now (out .exit)) ⌝ }
+    ensures { λ r. ⌜ Wrote 680 (now (out .entry)) at (spellEach (spellIndex kind mode time before) [] (take (bands kind mode) xs)) r
+        (now (out .exit)) ⌝ }
 {
     let count = kinds::bands(kind, mode);
     let table = steps::difference_table(kind, mode, time);

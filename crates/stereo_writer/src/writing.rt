@@ -65,7 +65,8 @@ fn bytes_for(bits: usize) -> usize
 // Contents spelled from a state into a scratch array of zeros, and read back.
 fn spell(scratch: &mut [u8], state: State, contents: Contents) -> Spelled
     requires { ⌜ now scratch ≡ replicate 1536 0 ⌝ }
-    ensures { λ r. ⌜ (r .bits ≡ total (spelling state contents)) × (r .bits ≤ 10952) × (r .can ≡ canWrite state contents) × (now (scratch .exit) ≡ putAll (replicate 1536 0) 0 (spelling state contents)) ⌝ }
+    ensures { λ r. ⌜ (r .bits ≡ total (spelling state contents)) × (r .bits ≤ 10952) × (r .can ≡ canWrite state contents)
+        × (now (scratch .exit) ≡ putAll (replicate 1536 0) 0 (spelling state contents)) ⌝ }
 {
     let codes = tables::codes();
     let lens = tables::lens();
@@ -76,7 +77,8 @@ fn spell(scratch: &mut [u8], state: State, contents: Contents) -> Spelled
 
 // Contents written from a state into a lent buffer: the refusal, or 0, how many bits were written, and the next state.
 pub fn write(out: &mut [u8], state: State, contents: Contents) -> Written
-    ensures { λ r. ⌜ (r ≡ writing state contents (length (now (out .entry)))) × (now (out .exit) ≡ writtenOver r state contents (now (out .entry))) ⌝ }
+    ensures { λ r. ⌜ (r ≡ writing state contents (length (now (out .entry))))
+        × (now (out .exit) ≡ writtenOver r state contents (now (out .entry))) ⌝ }
 {
     if !states::is_sound(state) {
         return refused(4, state);

@@ -45,8 +45,10 @@ module _ (i k : ℕ) where
       → (piece c l ∷ [] ≡ spellWord (tableAt i) k) × (l ≤ 20)
   entry-is h p q =
       let a = run-at allCodes (tableAt i .first) (tableAt i .count) k h in
-      let b = run-at allLens (tableAt i .first) (tableAt i .count) k h in
-      (ap₂ (λ (x y : ℕ). piece x y ∷ []) (p ∙ sym a) (q ∙ sym b), rw q (all-at 20 allLens narrow (tableAt i .first + k) (omega (arith, lens-count, place-in i))))
+      let b = run-at allLens (tableAt i .first) (tableAt i .count) k h in (
+        ap₂ (λ (x y : ℕ). piece x y ∷ []) (p ∙ sym a) (q ∙ sym b),
+        rw q (all-at 20 allLens narrow (tableAt i .first + k) (omega (arith, lens-count, place-in i))),
+      )
 
   -- one that there is not
   pub no-entry : tableAt i .count ≤ k → piece 0 0 ∷ [] ≡ spellWord (tableAt i) k
@@ -54,4 +56,5 @@ module _ (i k : ℕ) where
       let a = run-length allCodes (tableAt i .first) (tableAt i .count) (omega (arith, codes-count, place-in i)) in
       let b = run-length allLens (tableAt i .first) (tableAt i .count) (omega (arith, lens-count, place-in i)) in
       ap₂ (λ (x y : ℕ). piece x y ∷ [])
-      (sym (List·getD-eq-default (codesOf (tableAt i)) 0 {n = k} (omega arith))) (sym (List·getD-eq-default (lensOf (tableAt i)) 0 {n = k} (omega arith)))
+      (sym (List·getD-eq-default (codesOf (tableAt i)) 0 {n = k} (omega arith)))
+      (sym (List·getD-eq-default (lensOf (tableAt i)) 0 {n = k} (omega arith)))

@@ -55,8 +55,10 @@ free-at i =
 pub lawful-at : (i : ℕ) → Lawful (wordOf (tableAt i))
 lawful-at i = word-lawful (codesOf (tableAt i)) (lensOf (tableAt i)) (free-at i)
 
-pub spelt-at : (i : ℕ) → Spelt (wordOf (tableAt i)) [] (spellWord (tableAt i)) (λ k. (k < length (codesOf (tableAt i))) × (k < length (lensOf (tableAt i))))
+pub spelt-at : (i : ℕ) → Spelt (wordOf (tableAt i)) [] (spellWord (tableAt i))
+    (λ k. (k < length (codesOf (tableAt i))) × (k < length (lensOf (tableAt i))))
 spelt-at i = word-spelt (codesOf (tableAt i)) (lensOf (tableAt i))
 
-pub back-at : (i k : ℕ) → k < length (codesOf (tableAt i)) → k < length (lensOf (tableAt i)) → Back (wordOf (tableAt i)) k (spellWord (tableAt i) k)
+pub back-at : (i k : ℕ) → k < length (codesOf (tableAt i)) → k < length (lensOf (tableAt i))
+    → Back (wordOf (tableAt i)) k (spellWord (tableAt i) k)
 back-at i k = word-back (codesOf (tableAt i)) (lensOf (tableAt i)) k (free-at i)

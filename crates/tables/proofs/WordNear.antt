@@ -18,7 +18,8 @@ use Rattle.tables.specs.Names.{tableAt}
 use Rattle.tables.proofs.Rules.{ruled-at, lawful-at}
 use Rattle.bits.proofs.NearLaws.{Near, lawful-near}
 
-scan-same : (m : ℕ) (cs ls : List ℕ) (i : ℕ) (short : Bool) (s : List ℕ) (at end end′ : ℕ) → T (sized m cs ls) → at + m ≤ end → at + m ≤ end′
+scan-same : (m : ℕ) (cs ls : List ℕ) (i : ℕ) (short : Bool) (s : List ℕ) (at end end′ : ℕ) → T (sized m cs ls) → at + m ≤ end
+    → at + m ≤ end′
     → scan cs ls i short s at end ≡ scan cs ls i short s at end′
 unfolding scan fits cutOff
 scan-same m [] ls i short s at end end′ t h k = refl
@@ -30,11 +31,13 @@ scan-same m (c ∷ cs) (l ∷ ls) i short s at end end′ t h k =
     let u : l ≤ end - at = omega arith in
     let v : l ≤ end′ - at = omega arith in
     rw (le-leb l (end - at) u, le-leb l (end′ - at) v, le-ltb (end - at) l u, le-ltb (end′ - at) l v)
-    (ap (pick (eqb (bitsFrom s at l) c) (got i (at + l))) (scan-same m cs ls (i + 1) (short || false) s at end end′ (and-right (a && b) (sized m cs ls) t) h k))
+    (ap (pick (eqb (bitsFrom s at l) c) (got i (at + l)))
+    (scan-same m cs ls (i + 1) (short || false) s at end end′ (and-right (a && b) (sized m cs ls) t) h k))
 
 pub word-near : (i : ℕ) → i < 22 → Near 20 (wordOf (tableAt i))
 unfolding word
 word-near i h =
     let c = complete-parts (codesOf (tableAt i)) (lensOf (tableAt i)) (ruled-at i h) in
     lawful-near 20 (wordOf (tableAt i)) (lawful-at i)
-    (λ s at end end′ a b. scan-same _ (codesOf (tableAt i)) (lensOf (tableAt i)) 0 false s at end end′ (c .size) (omega (arith, c .short)) (omega (arith, c .short)))
+    (λ s at end end′ a b. scan-same _ (codesOf (tableAt i)) (lensOf (tableAt i)) 0 false s at end end′ (c .size)
+    (omega (arith, c .short)) (omega (arith, c .short)))

@@ -97,7 +97,8 @@ ones-back (suc k) j n h g =
     elim (decLt j n) [
       | yes d ↦
           let q : n - j ≡ suc (n - (j + 1)) = omega arith in
-          rw q (bind-back (λ one. pick (eqb one 1) (ones k (j + 1)) (give j)) field-back (ones-back k (j + 1) n (omega arith) (omega arith)))
+          rw q (bind-back (λ one. pick (eqb one 1) (ones k (j + 1)) (give j)) field-back
+          (ones-back k (j + 1) n (omega arith) (omega arith)))
       | no d ↦
           let q : n - j ≡ 0 = omega arith in
           let e : j ≡ n = omega arith in
@@ -108,9 +109,11 @@ pub escape-back : (n v : ℕ) → n < 9 → v < 2 ^ (n + 4) → Back escape (mag
 unfolding escape
 escape-back n v h l =
     let o : Back (ones 9 0) n (spellOnes n) =
-    subst (λ (k : ℕ). Back (ones 9 0) n (spellOnes k)) (let q : n - 0 ≡ n = omega arith in q) (ones-back 9 0 n (omega arith) (omega arith)) in
+    subst (λ (k : ℕ). Back (ones 9 0) n (spellOnes k)) (let q : n - 0 ≡ n = omega arith in q)
+    (ones-back 9 0 n (omega arith) (omega arith)) in
     rw (spell-is n v h l)
-    (oneField-back (bind-back (λ n. field (n + 4) >>= λ v. give (magnitude n v)) o (bind-back (λ v. give (magnitude n v)) field-back give-back)))
+    (oneField-back (bind-back (λ n. field (n + 4) >>= λ v. give (magnitude n v)) o
+    (bind-back (λ v. give (magnitude n v)) field-back give-back)))
 
 -- as the code's loop goes: n ones are there
 module _ (n : ℕ) (s : List ℕ) (at end : ℕ) where

@@ -23,11 +23,13 @@ fit-parts c l s at end e =
     let w = and-both (leb l (end - at)) (eqb (bitsFrom s at l) c) e in
     (leb-true _ _ (w .0), eqb-true _ _ (w .1))
 
-pub cut-of : (c l : ℕ) (s : List ℕ) (at end : ℕ) → end - at < l → bitsFrom s at (end - at) ≡ c / 2 ^ (l - (end - at)) → cutOff c l s at end ≡ true
+pub cut-of : (c l : ℕ) (s : List ℕ) (at end : ℕ) → end - at < l → bitsFrom s at (end - at) ≡ c / 2 ^ (l - (end - at))
+    → cutOff c l s at end ≡ true
 unfolding cutOff
 cut-of c l s at end h e = simp (lt-ltb _ _ h, eq-eqb _ _ e)
 
-pub cut-parts : (c l : ℕ) (s : List ℕ) (at end : ℕ) → cutOff c l s at end ≡ true → (end - at < l) × (bitsFrom s at (end - at) ≡ c / 2 ^ (l - (end - at)))
+pub cut-parts : (c l : ℕ) (s : List ℕ) (at end : ℕ) → cutOff c l s at end ≡ true
+    → (end - at < l) × (bitsFrom s at (end - at) ≡ c / 2 ^ (l - (end - at)))
 unfolding cutOff
 cut-parts c l s at end e =
     let w = and-both (ltb (end - at) l) (eqb (bitsFrom s at (end - at)) (c / 2 ^ (l - (end - at)))) e in

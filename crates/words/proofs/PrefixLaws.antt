@@ -146,11 +146,14 @@ prefix-rule [] ls f i j h h′ g g′ e = absurd (not-suc-le-zero h)
 prefix-rule (c ∷ cs) [] f i j h h′ g g′ e = absurd (not-suc-le-zero h′)
 prefix-rule (c ∷ cs) (l ∷ ls) f zero zero h h′ g g′ e = refl
 prefix-rule (c ∷ cs) (l ∷ ls) f zero (suc j) h h′ g g′ e =
-    absurd (neither-l _ (isPrefix (getD cs j 0) (getD ls j 0) c l) (apart-at c l cs ls (and-left (apart c l cs ls) (prefixFree cs ls) f) j (omega arith) (omega arith)) e)
+    absurd (neither-l _ (isPrefix (getD cs j 0) (getD ls j 0) c l)
+    (apart-at c l cs ls (and-left (apart c l cs ls) (prefixFree cs ls) f) j (omega arith) (omega arith)) e)
 prefix-rule (c ∷ cs) (l ∷ ls) f (suc i) zero h h′ g g′ e =
-    absurd (neither-r (isPrefix c l (getD cs i 0) (getD ls i 0)) _ (apart-at c l cs ls (and-left (apart c l cs ls) (prefixFree cs ls) f) i (omega arith) (omega arith)) e)
+    absurd (neither-r (isPrefix c l (getD cs i 0) (getD ls i 0)) _
+    (apart-at c l cs ls (and-left (apart c l cs ls) (prefixFree cs ls) f) i (omega arith) (omega arith)) e)
 prefix-rule (c ∷ cs) (l ∷ ls) f (suc i) (suc j) h h′ g g′ e =
-    ap suc (prefix-rule cs ls (and-right (apart c l cs ls) (prefixFree cs ls) f) i j (omega arith) (omega arith) (omega arith) (omega arith) e)
+    ap suc (prefix-rule cs ls (and-right (apart c l cs ls) (prefixFree cs ls) f) i j (omega arith) (omega arith) (omega arith)
+    (omega arith) e)
 
 -- each length is at most M
 pub sized-at : (M : ℕ) (cs ls : List ℕ) → T (sized M cs ls) → (k : ℕ) → k < length cs → k < length ls → getD ls k 0 ≤ M
@@ -162,7 +165,8 @@ sized-at M (c ∷ cs) (l ∷ ls) z (suc k) h g =
     sized-at M cs ls (and-right (leb l M && ltb c (2 ^ l)) (sized M cs ls) z) k (omega arith) (omega arith)
 
 -- a word that covers the bits is a hit
-pub hit-some : (M : ℕ) (cs ls : List ℕ) (x i : ℕ) → i < length cs → i < length ls → x / 2 ^ (M - getD ls i 0) ≡ getD cs i 0 → 0 < hits M cs ls x
+pub hit-some : (M : ℕ) (cs ls : List ℕ) (x i : ℕ) → i < length cs → i < length ls → x / 2 ^ (M - getD ls i 0) ≡ getD cs i 0
+    → 0 < hits M cs ls x
 hit-some M [] ls x i h g e = absurd (not-suc-le-zero h)
 hit-some M (c ∷ cs) [] x i h g e = absurd (not-suc-le-zero g)
 hit-some M (c ∷ cs) (l ∷ ls) x zero h g e = simp (eq-eqb _ _ e) (omega arith)

@@ -30,33 +30,42 @@ scan-11 (c ∷ cs) (l ∷ ls) i short s at end p e = step (fits c l s at end) re
         → (short ≡ false) × ((k : ℕ) → k < length cs → k < length ls
         → (fits (getD cs k 0) (getD ls k 0) s at end ≡ false) × (cutOff (getD cs k 0) (getD ls k 0) s at end ≡ false)))
         → (short ≡ false) × ((k : ℕ) → k < suc (length cs) → k < suc (length ls)
-        → (fits (getD (c ∷ cs) k 0) (getD (l ∷ ls) k 0) s at end ≡ false) × (cutOff (getD (c ∷ cs) k 0) (getD (l ∷ ls) k 0) s at end ≡ false))
+        → (fits (getD (c ∷ cs) k 0) (getD (l ∷ ls) k 0) s at end ≡ false)
+        × (cutOff (getD (c ∷ cs) k 0) (getD (l ∷ ls) k 0) s at end ≡ false))
     step true u k v short e r = let z : _≡_ {A = ℕ} 0 1 = cc in absurd (omega arith)
-    step false u true v true e r = let w : true ≡ false = r true s at end p e .0 in (w, λ k h g. let z : _≡_ {A = ℕ} 0 1 = cc in absurd (omega arith))
-    step false u true v false e r = let w : true ≡ false = r true s at end p e .0 in (refl, λ k h g. let z : _≡_ {A = ℕ} 0 1 = cc in absurd (omega arith))
-    step false u false v true e r = let w : true ≡ false = r true s at end p e .0 in (w, λ k h g. let z : _≡_ {A = ℕ} 0 1 = cc in absurd (omega arith))
+    step false u true v true e r = let w : true ≡ false =
+        r true s at end p e .0 in (w, λ k h g. let z : _≡_ {A = ℕ} 0 1 = cc in absurd (omega arith))
+    step false u true v false e r = let w : true ≡ false =
+        r true s at end p e .0 in (refl, λ k h g. let z : _≡_ {A = ℕ} 0 1 = cc in absurd (omega arith))
+    step false u false v true e r = let w : true ≡ false =
+        r true s at end p e .0 in (w, λ k h g. let z : _≡_ {A = ℕ} 0 1 = cc in absurd (omega arith))
     step false u false v false e r = (refl, each)
       where
         each : (k : ℕ) → k < suc (length cs) → k < suc (length ls)
-            → (fits (getD (c ∷ cs) k 0) (getD (l ∷ ls) k 0) s at end ≡ false) × (cutOff (getD (c ∷ cs) k 0) (getD (l ∷ ls) k 0) s at end ≡ false)
+            → (fits (getD (c ∷ cs) k 0) (getD (l ∷ ls) k 0) s at end ≡ false)
+            × (cutOff (getD (c ∷ cs) k 0) (getD (l ∷ ls) k 0) s at end ≡ false)
         each zero h g = (u, v)
         each (suc k) h g = r false s at end p e .1 k (omega arith) (omega arith)
 
 -- what an accepted scan has found
 pub scan-got : (cs ls : List ℕ) (i : ℕ) (short : Bool) (s : List ℕ) (at end j next : ℕ) → scan cs ls i short s at end ≡ got j next
-    → (k : ℕ) × (k < length cs) × (k < length ls) × (j ≡ i + k) × (fits (getD cs k 0) (getD ls k 0) s at end ≡ true) × (next ≡ at + getD ls k 0)
+    → (k : ℕ) × (k < length cs) × (k < length ls) × (j ≡ i + k) × (fits (getD cs k 0) (getD ls k 0) s at end ≡ true)
+    × (next ≡ at + getD ls k 0)
 unfolding scan
 scan-got [] ls i true s at end j next e = let z : _≡_ {A = ℕ} 0 1 = cc in absurd (omega arith)
 scan-got [] ls i false s at end j next e = let z : _≡_ {A = ℕ} 0 1 = cc in absurd (omega arith)
 scan-got (c ∷ cs) [] i true s at end j next e = let z : _≡_ {A = ℕ} 0 1 = cc in absurd (omega arith)
 scan-got (c ∷ cs) [] i false s at end j next e = let z : _≡_ {A = ℕ} 0 1 = cc in absurd (omega arith)
-scan-got (c ∷ cs) (l ∷ ls) i short s at end j next e = step (fits c l s at end) refl e (scan-got cs ls (i + 1) (short || (cutOff c l s at end)) s at end j next)
+scan-got (c ∷ cs) (l ∷ ls) i short s at end j next e =
+    step (fits c l s at end) refl e (scan-got cs ls (i + 1) (short || (cutOff c l s at end)) s at end j next)
   where
     step : (f : Bool) → fits c l s at end ≡ f
         → pick f (got i (at + l)) (scan cs ls (i + 1) (short || (cutOff c l s at end)) s at end) ≡ got j next
         → (scan cs ls (i + 1) (short || (cutOff c l s at end)) s at end ≡ got j next
-        → (k : ℕ) × (k < length cs) × (k < length ls) × (j ≡ i + 1 + k) × (fits (getD cs k 0) (getD ls k 0) s at end ≡ true) × (next ≡ at + getD ls k 0))
-        → (k : ℕ) × (k < suc (length cs)) × (k < suc (length ls)) × (j ≡ i + k) × (fits (getD (c ∷ cs) k 0) (getD (l ∷ ls) k 0) s at end ≡ true)
+        → (k : ℕ) × (k < length cs) × (k < length ls) × (j ≡ i + 1 + k) × (fits (getD cs k 0) (getD ls k 0) s at end ≡ true)
+        × (next ≡ at + getD ls k 0))
+        → (k : ℕ) × (k < suc (length cs)) × (k < suc (length ls)) × (j ≡ i + k)
+        × (fits (getD (c ∷ cs) k 0) (getD (l ∷ ls) k 0) s at end ≡ true)
         × (next ≡ at + getD (l ∷ ls) k 0)
     step true u e r = let q : i ≡ j = cc in (0, omega arith, omega arith, omega arith, u, cc)
     step false u e r = let w = r e in (suc (w .0), omega arith, omega arith, omega arith, w .4, w .5)
@@ -96,14 +105,16 @@ scan-10 (c ∷ cs) (l ∷ ls) i short s at end n (inl e) =
     (scan-10 cs ls (i + 1) true s at end (λ j a b. n (suc j) (omega arith) (omega arith)) (inl refl))
 scan-10 (c ∷ cs) (l ∷ ls) i short s at end n (inr w) =
     simp (n 0 (omega arith) (omega arith))
-    (scan-10 cs ls (i + 1) (short || (cutOff c l s at end)) s at end (λ j a b. n (suc j) (omega arith) (omega arith)) (next (w .0) (w .1) (w .2) (w .3)))
+    (scan-10 cs ls (i + 1) (short || (cutOff c l s at end)) s at end (λ j a b. n (suc j) (omega arith) (omega arith))
+    (next (w .0) (w .1) (w .2) (w .3)))
   where
     later : (a b : Bool) → b ≡ true → (a || b) ≡ true
     later true b e = refl
     later false b e = e
 
     next : (k : ℕ) → k < suc (length cs) → k < suc (length ls) → cutOff (getD (c ∷ cs) k 0) (getD (l ∷ ls) k 0) s at end ≡ true
-        → ((short || (cutOff c l s at end)) ≡ true) ⊎ ((k : ℕ) × (k < length cs) × (k < length ls) × (cutOff (getD cs k 0) (getD ls k 0) s at end ≡ true))
+        → ((short || (cutOff c l s at end)) ≡ true) ⊎
+        ((k : ℕ) × (k < length cs) × (k < length ls) × (cutOff (getD cs k 0) (getD ls k 0) s at end ≡ true))
     next zero h g e = inl (later short (cutOff c l s at end) e)
     next (suc k) h g e = inr (k, omega arith, omega arith, e)
 

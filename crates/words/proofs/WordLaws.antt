@@ -144,9 +144,11 @@ module _ (cs ls : List ℕ) (f : T (prefixFree cs ls)) where
   pub cut-is : (s : List ℕ) (at end k : ℕ) → k < length cs → k < length ls → cutOff (getD cs k 0) (getD ls k 0) s at end ≡ true
       → word cs ls s at end ≡ refused 10 at
   unfolding word
-  cut-is s at end k h g e = scan-10 cs ls 0 false s at end (λ j a b. go j a b (fits (getD cs j 0) (getD ls j 0) s at end) refl) (inr (k, h, g, e))
+  cut-is s at end k h g e =
+      scan-10 cs ls 0 false s at end (λ j a b. go j a b (fits (getD cs j 0) (getD ls j 0) s at end) refl) (inr (k, h, g, e))
     where
-      go : (j : ℕ) → j < length cs → j < length ls → (x : Bool) → fits (getD cs j 0) (getD ls j 0) s at end ≡ x → fits (getD cs j 0) (getD ls j 0) s at end ≡ false
+      go : (j : ℕ) → j < length cs → j < length ls → (x : Bool) → fits (getD cs j 0) (getD ls j 0) s at end ≡ x
+          → fits (getD cs j 0) (getD ls j 0) s at end ≡ false
       go j a b true q =
           let u = fit-parts (getD cs j 0) (getD ls j 0) s at end q in
           let v = cut-parts (getD cs k 0) (getD ls k 0) s at end e in
@@ -177,15 +179,18 @@ some-11 M cs ls e z k =
     let b : bitsFrom (packed (piece (w .0) M ∷ [])) 0 M ≡ w .0 = packed-holds (piece (w .0) M ∷ []) (w .1, tt) .0 in (
       s,
       scan-neither cs ls 0 s 0 M (λ i a b′.
-          let n = sized-at M cs ls z i a b′ in
-          (not-fit s i a b′ n (w .0) b (w .2) (fits (getD cs i 0) (getD ls i 0) s 0 M) refl, not-cut s i n (cutOff (getD cs i 0) (getD ls i 0) s 0 M) refl)),
+          let n = sized-at M cs ls z i a b′ in (
+            not-fit s i a b′ n (w .0) b (w .2) (fits (getD cs i 0) (getD ls i 0) s 0 M) refl,
+            not-cut s i n (cutOff (getD cs i 0) (getD ls i 0) s 0 M) refl,
+          )),
     )
   where
     not-fit : (s : List ℕ) (i : ℕ) → i < length cs → i < length ls → getD ls i 0 ≤ M → (x : ℕ) → bitsFrom s 0 M ≡ x → hits M cs ls x ≡ 0
         → (t : Bool) → fits (getD cs i 0) (getD ls i 0) s 0 M ≡ t → t ≡ false
     not-fit s i a b n x q h true e =
         let u = fit-parts (getD cs i 0) (getD ls i 0) s 0 M e in
-        let c : x / 2 ^ (M - getD ls i 0) ≡ getD cs i 0 = ap (λ (y : ℕ). y / 2 ^ (M - getD ls i 0)) (sym q) ∙ bitsFrom-prefix s 0 (getD ls i 0) M n ∙ u .1 in
+        let c : x / 2 ^ (M - getD ls i 0) ≡ getD cs i 0 = ap (λ (y : ℕ). y / 2 ^ (M - getD ls i 0)) (sym q)
+        ∙ bitsFrom-prefix s 0 (getD ls i 0) M n ∙ u .1 in
         let p = hit-some M cs ls x i a b c in
         absurd (omega arith)
     not-fit s i a b n x q h false e = refl
@@ -195,7 +200,8 @@ some-11 M cs ls e z k =
     not-cut s i n false e = refl
 
 -- read, then spelled: the word of the entry
-pub word-spelt : (cs ls : List ℕ) → Spelt (word cs ls) [] (λ k. piece (getD cs k 0) (getD ls k 0) ∷ []) (λ k. (k < length cs) × (k < length ls))
+pub word-spelt : (cs ls : List ℕ)
+    → Spelt (word cs ls) [] (λ k. piece (getD cs k 0) (getD ls k 0) ∷ []) (λ k. (k < length cs) × (k < length ls))
 word-spelt cs ls = record {
   law = λ s at end next a e.
       let x = word-fit cs ls s at end a next e in

@@ -9,7 +9,8 @@ use native.Mathlib.Omega.{arith}
 use lib.Dec.{T, eqb}
 use Rattle.bits.specs.Reader.{Answer, got, refused, pick}
 use Rattle.bits.specs.Field.{field}
-use Rattle.bits.proofs.Numbered.{Numbered, bind-numbered, field-numbered, give-numbered, refusing-numbered, pick-numbered, oneField-numbered}
+use Rattle.bits.proofs.Numbered.{Numbered, bind-numbered, field-numbered, give-numbered, refusing-numbered, pick-numbered}
+use Rattle.bits.proofs.Numbered.{oneField-numbered}
 use Rattle.words.specs.Words.{fits, cutOff, scan, word}
 use Rattle.words.specs.Table.{complete}
 use Rattle.words.specs.Escape.{ones, magnitude, escape}
@@ -20,7 +21,8 @@ end-of : (short : Bool) (at n p : ℕ) → _≡_ {A = Answer ℕ} (pick short (r
 end-of true at n p e = let z : 10 ≡ n = cc in inl (sym z)
 end-of false at n p e = let z : 11 ≡ n = cc in inr (sym z)
 
-scan-refused : (cs ls : List ℕ) (i : ℕ) (short : Bool) (s : List ℕ) (at end n p : ℕ) → scan cs ls i short s at end ≡ refused n p → (n ≡ 10) ⊎ (n ≡ 11)
+scan-refused : (cs ls : List ℕ) (i : ℕ) (short : Bool) (s : List ℕ) (at end n p : ℕ) → scan cs ls i short s at end ≡ refused n p
+    → (n ≡ 10) ⊎ (n ≡ 11)
 unfolding scan
 scan-refused [] ls i short s at end n p e = end-of short at n p e
 scan-refused (c ∷ cs) [] i short s at end n p e = end-of short at n p e
@@ -46,7 +48,8 @@ ones-numbered : (among : ℕ → Bool) → among 10 ≡ true → among 26 ≡ tr
 unfolding ones
 ones-numbered among o q zero n = refusing-numbered among 26 (λ at. at) q
 ones-numbered among o q (suc k) n =
-    bind-numbered among (field 1) _ (field-numbered among o 1) (λ one. pick-numbered among (eqb one 1) _ _ (ones-numbered among o q k (n + 1)) (give-numbered among n))
+    bind-numbered among (field 1) _ (field-numbered among o 1)
+    (λ one. pick-numbered among (eqb one 1) _ _ (ones-numbered among o q k (n + 1)) (give-numbered among n))
 
 pub escape-numbered : (among : ℕ → Bool) → among 10 ≡ true → among 26 ≡ true → Numbered among escape
 unfolding escape

@@ -26,14 +26,28 @@ enum-known-f-2 c = search needs
 returns-2 : tie.Need-returns-2
 unfolding tookAt
 returns-2 c =
-    let x = c .before .before .before .before .before .before .before .args in
-    rw (le-leb (x .n) 20 (omega arith), ← (c .before .before .before .before .last-place .ensures .0), answered (c .before .before .before .read-field .ensures) (c .before .f .given .1))
+    let at-read-field = c .before .before .before in
+    let at-last-place = at-read-field .before in
+    let entry = at-last-place .before .before .before in
+    let x = entry .args in
+    rw (
+      le-leb (x .n) 20 (omega arith),
+      ← (at-last-place .last-place .ensures .0),
+      answered (at-read-field .read-field .ensures) (c .before .f .given .1),
+    )
 
 returns-3 : tie.Need-returns-3
 unfolding tookAt
 returns-3 c =
-    let x = c .before .before .before .before .before .before .before .args in
-    rw (le-leb (x .n) 20 (omega arith), ← (c .before .before .before .before .last-place .ensures .0), answered (c .before .before .before .read-field .ensures) (c .before .f2 .given .1))
+    let at-read-field = c .before .before .before in
+    let at-last-place = at-read-field .before in
+    let entry = at-last-place .before .before .before in
+    let x = entry .args in
+    rw (
+      le-leb (x .n) 20 (omega arith),
+      ← (at-last-place .last-place .ensures .0),
+      answered (at-read-field .read-field .ensures) (c .before .f2 .given .1),
+    )
 
 pub took-at-spec : {M : Type 1} → statement M
 took-at-spec =

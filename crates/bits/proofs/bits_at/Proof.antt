@@ -67,14 +67,16 @@ cast-result : tie.Need-cast-result
 cast-result c =
     let a = c .before .before .before .before .before in
     let x = a .args in
-    let e = word-run (x .s .now) (x .at) (x .n) (a .pre) (c .before .before .before .byte .ensures) (c .before .before .byte2 .ensures) (c .before .byte3 .ensures) (c .byte4 .ensures) in
+    let e = word-run (x .s .now) (x .at) (x .n) (a .pre) (c .before .before .before .byte .ensures) (c .before .before .byte2 .ensures)
+    (c .before .byte3 .ensures) (c .byte4 .ensures) in
     omega (arith, bitsFrom-below (x .s .now) (x .at) (x .n) 20 (a .pre))
 
 returns : tie.Need-returns
 returns c =
     let a = c .before .before .before .before .before in
     let x = a .args in
-    let e = word-run (x .s .now) (x .at) (x .n) (a .pre) (c .before .before .before .byte .ensures) (c .before .before .byte2 .ensures) (c .before .byte3 .ensures) (c .byte4 .ensures) in
+    let e = word-run (x .s .now) (x .at) (x .n) (a .pre) (c .before .before .before .byte .ensures) (c .before .before .byte2 .ensures)
+    (c .before .byte3 .ensures) (c .byte4 .ensures) in
     e
 
 pub bits-at-spec : {M : Type 1} → statement M

@@ -16,7 +16,8 @@ returns : tie.Need-returns
 returns c =
     let j = c .before in
     let a = j .before .before .before .before .before .args in
-    call-refused (a .buf .now) (a .start) (a .end) (a .index) (a .lines .now) (a .factors .now) (a .books .now) (a .answer .now) (j .call-refusal .result) (j .call-refusal .ensures) (c .if1 .taken)
+    call-refused (a .buf .now) (a .start) (a .end) (a .index) (a .lines .now) (a .factors .now) (a .books .now) (a .answer .now)
+    (j .call-refusal .result) (j .call-refusal .ensures) (c .if1 .taken)
 
 narrow-requires : tie.Need-narrow-requires
 narrow-requires c κs = search needs
@@ -38,7 +39,8 @@ same-length-3 c = search needs
 
 returns-2 : tie.Need-returns-2
 returns-2 c =
-    let read = c .before .before .before .before .before .before .before .before in
+    let at-before = c .before .before .before .before .before .before .before in
+    let read = at-before .before in
     let narrowed = read .before .before .before .before in
     let tested = narrowed .before in
     let a = tested .before .before .before .before .before .before .args in
@@ -49,9 +51,11 @@ returns-2 c =
 
 put-reading-requires : tie.Need-put-reading-requires
 put-reading-requires c κs =
-    let tested = c .before .before .before .before .before .before .before .before .before .before .before .before .before in
+    let at-before = c .before .before .before .before .before .before .before .before .before .before .before .before in
+    let tested = at-before .before in
     let a = tested .before .before .before .before .before .before .args in
-    call-room (length (a .buf .now)) (a .start) (a .end) 17 (length (a .answer .now)) (sym (tested .before .call-refusal .ensures) ∙ tested .if1 .left)
+    call-room (length (a .buf .now)) (a .start) (a .end) 17 (length (a .answer .now))
+    (sym (tested .before .call-refusal .ensures) ∙ tested .if1 .left)
 
 same-length-4 : tie.Need-same-length-4
 same-length-4 c = search needs
@@ -67,7 +71,8 @@ same-length-7 c = search needs
 
 returns-3 : tie.Need-returns-3
 returns-3 c =
-    let read = c .before .before .before .before .before .before .before .before .before .before .before in
+    let at-before = c .before .before .before .before .before .before .before .before .before .before in
+    let read = at-before .before in
     let narrowed = read .before .before .before .before in
     let tested = narrowed .before in
     let a = tested .before .before .before .before .before .before .args in

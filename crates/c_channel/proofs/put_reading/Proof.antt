@@ -39,8 +39,10 @@ returns c =
     let word = head .before .before .before .before .before in
     let a = word .before .before .before .before .before .args in
     let r = a .r in
-    let at-4 : Put (a .answer .now) 0 (wordOf (r .bits)) 4 (word .put .last .0) = (word .put .ensures ∙ rw (word .before .before .before .word-of .ensures), refl) in
-    let at-9 = put-next (a .answer .now) 0 _ 4 (r .gain ∷ r .sequence ∷ r .shape ∷ r .«max_sfb» ∷ r .«group_count» ∷ []) 5 at-4 (head .put2 .ensures, refl) (omega arith) in
+    let at-4 : Put (a .answer .now) 0 (wordOf (r .bits)) 4 (word .put .last .0) =
+    (word .put .ensures ∙ rw (word .before .before .before .word-of .ensures), refl) in
+    let at-9 = put-next (a .answer .now) 0 _ 4 (r .gain ∷ r .sequence ∷ r .shape ∷ r .«max_sfb» ∷ r .«group_count» ∷ []) 5 at-4
+    (head .put2 .ensures, refl) (omega arith) in
     put-next (a .answer .now) 0 _ 9 (r .groups) 8 at-9 (groups .put-groups .ensures) (omega arith) .0
 
 pub put-reading-spec : {M : Type 1} → statement M

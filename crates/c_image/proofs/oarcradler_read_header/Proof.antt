@@ -24,8 +24,10 @@ cast-result c = search needs
 returns-2 : tie.Need-returns-2
 unfolding imageNumber imageAnswerAfter
 returns-2 c =
-    let r = c .before .before .before .read-header in
-    let a = c .before .before .before .before .before .before .before .args in
+    let at-read-header = c .before .before .before in
+    let entry = at-read-header .before .before .before .before in
+    let r = at-read-header .read-header in
+    let a = entry .args in
     let room = le-leb 8 (length (a .answer .now)) (omega arith) in
     let no = ne-eqb _ 0 (rw (r .ensures) at (c .before .if2 .taken)) in
     (rw room (ap (λ (z : _). z .number) (r .ensures)), rw (room, no))
@@ -42,10 +44,13 @@ same-length c = search needs
 returns-3 : tie.Need-returns-3
 unfolding imageNumber imageAnswerAfter
 returns-3 c =
-    let r = c .before .before .before .before .before .before .before .read-header in
-    let a = c .before .before .before .before .before .before .before .before .before .before .before .args in
+    let at-if2 = c .before .before .before .before .before in
+    let at-read-header = at-if2 .before .before in
+    let entry = at-read-header .before .before .before .before in
+    let r = at-read-header .read-header in
+    let a = entry .args in
     let room = le-leb 8 (length (a .answer .now)) (omega arith) in
-    let zero = rw (r .ensures) at (c .before .before .before .before .before .if2 .left) in
+    let zero = rw (r .ensures) at (at-if2 .if2 .left) in
     let yes = eq-eqb _ 0 zero in
     (rw room (sym zero), rw (room, yes) (c .before .before .put-words .ensures ∙ rw (r .ensures)))
 

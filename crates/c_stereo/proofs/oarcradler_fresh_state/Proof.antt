@@ -24,9 +24,11 @@ same-length c = search needs
 
 returns-2 : tie.Need-returns-2
 returns-2 c =
-    let s = c .before .before .before .before .before .before .before .args .state .now in
+    let at-fresh = c .before .before .before in
+    let entry = at-fresh .before .before .before .before in
+    let s = entry .args .state .now in
     let room = le-leb 146 (length s) (omega arith) in
-    (rw room, rw room (c .before .before .put-state .ensures ∙ rw (c .before .before .before .fresh .ensures)))
+    (rw room, rw room (c .before .before .put-state .ensures ∙ rw (at-fresh .fresh .ensures)))
 
 pub oarcradler-fresh-state-spec : {M : Type 1} → statement M
 oarcradler-fresh-state-spec =

@@ -20,7 +20,8 @@ same-length c = search needs
 
 returns : tie.Need-returns
 returns c =
-    let a = c .before .before .before .before .before .before .args in
+    let entry = c .before .before .before .before .before .before in
+    let a = entry .args in
     let j = c .before .stereo-call-refusal in
     call-refused (a .state .now) (a .buf .now) (a .start) (a .end) (a .answer .now) (j .result) (j .ensures) (c .if1 .taken)
 
@@ -73,7 +74,11 @@ slice-write-state c =
     let a = j .before .before .before .before .before .args in
     let e : stereoCallRefusal (a .state .now) (length (a .buf .now)) (a .start) (a .end) (length (a .answer .now)) ≡ 0 =
     _∙_ {b = j .stereo-call-refusal .result} (sym (j .stereo-call-refusal .ensures)) (tested .if1 .left) in
-    omega (arith, sound-long (a .state .now) (stereo-passed (a .state .now) (length (a .buf .now)) (a .start) (a .end) (length (a .answer .now)) e .1))
+    omega (
+      arith,
+      sound-long (a .state .now)
+          (stereo-passed (a .state .now) (length (a .buf .now)) (a .start) (a .end) (length (a .answer .now)) e .1),
+    )
 
 cast-result : tie.Need-cast-result
 cast-result c = search needs
@@ -83,18 +88,21 @@ same-length-2 c = search needs
 
 returns-2 : tie.Need-returns-2
 returns-2 c =
-    let tested = c .before .before .before .before .before .before .before in
+    let at-before = c .before .before .before .before .before .before in
+    let tested = at-before .before in
     let j = tested .before in
     let a = j .before .before .before .before .before .args in
     let e : stereoCallRefusal (a .state .now) (length (a .buf .now)) (a .start) (a .end) (length (a .answer .now)) ≡ 0 =
     _∙_ {b = j .stereo-call-refusal .result} (sym (j .stereo-call-refusal .ensures)) (tested .if1 .left) in
     let read = c .before .before .before in
-    let r : read .read-bytes .result ≡ stereoReading (a .state .now) (a .buf .now) (a .start) (a .end) = read .read-bytes .ensures ∙ rw (read .before .before .state-at .ensures) in
+    let r : read .read-bytes .result ≡ stereoReading (a .state .now) (a .buf .now) (a .start) (a .end) = read .read-bytes .ensures
+    ∙ rw (read .before .before .state-at .ensures) in
     rw r (payload-refused (a .state .now) (a .buf .now) (a .start) (a .end) (a .answer .now) e (rw r at (c .before .if2 .taken)))
 
 put-state-requires : tie.Need-put-state-requires
 put-state-requires c κs =
-    let tested = c .before .before .before .before .before .before .before in
+    let at-before = c .before .before .before .before .before .before in
+    let tested = at-before .before in
     let j = tested .before in
     let a = j .before .before .before .before .before .args in
     let e : stereoCallRefusal (a .state .now) (length (a .buf .now)) (a .start) (a .end) (length (a .answer .now)) ≡ 0 =
@@ -103,7 +111,8 @@ put-state-requires c κs =
 
 put-answer-requires : tie.Need-put-answer-requires
 put-answer-requires c κs =
-    let tested = c .before .before .before .before .before .before .before .before .before .before .before in
+    let at-before = c .before .before .before .before .before .before .before .before .before .before in
+    let tested = at-before .before in
     let j = tested .before in
     let a = j .before .before .before .before .before .args in
     let e : stereoCallRefusal (a .state .now) (length (a .buf .now)) (a .start) (a .end) (length (a .answer .now)) ≡ 0 =
@@ -118,14 +127,17 @@ same-length-4 c = search needs
 
 returns-3 : tie.Need-returns-3
 returns-3 c =
-    let tested = c .before .before .before .before .before .before .before .before .before .before .before .before .before .before in
+    let at-before = c .before .before .before .before .before in
+    let at-before-2 = at-before .before .before .before .before .before .before .before .before in
+    let tested = at-before-2 .before in
     let j = tested .before in
     let a = j .before .before .before .before .before .args in
     let e : stereoCallRefusal (a .state .now) (length (a .buf .now)) (a .start) (a .end) (length (a .answer .now)) ≡ 0 =
     _∙_ {b = j .stereo-call-refusal .result} (sym (j .stereo-call-refusal .ensures)) (tested .if1 .left) in
-    let put = c .before .before .before .before .before .before in
+    let put = at-before .before in
     let read = put .before .before .before .before in
-    let r : read .read-bytes .result ≡ stereoReading (a .state .now) (a .buf .now) (a .start) (a .end) = read .read-bytes .ensures ∙ rw (read .before .before .state-at .ensures) in
+    let r : read .read-bytes .result ≡ stereoReading (a .state .now) (a .buf .now) (a .start) (a .end) = read .read-bytes .ensures
+    ∙ rw (read .before .before .state-at .ensures) in
     let ends = accepted (a .state .now) (a .buf .now) (a .start) (a .end) (a .answer .now) e (rw r at (put .before .before .if2 .left)) in
     (ends .0, (put .put-state .ensures ∙ rw r (ends .1 .0), c .before .before .put-answer .ensures ∙ rw r (ends .1 .1)))
 

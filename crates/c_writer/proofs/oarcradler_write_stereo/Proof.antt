@@ -25,19 +25,22 @@ returns : tie.Need-returns
 returns c =
     let j = c .before in
     let a = j .before .before .before .before .before .args in
-    call-refused (a .state .now) (a .contents .now) (a .out .now) (j .write-call-refusal .result) (j .write-call-refusal .ensures) (c .if1 .taken)
+    call-refused (a .state .now) (a .contents .now) (a .out .now) (j .write-call-refusal .result) (j .write-call-refusal .ensures)
+    (c .if1 .taken)
 
 state-at-requires : tie.Need-state-at-requires
 state-at-requires c κs =
     let j = c .before .before in
     let a = j .before .before .before .before .before .args in
-    sound-long (a .state .now) (write-passed (a .state .now) (length (a .contents .now)) (sym (j .write-call-refusal .ensures) ∙ c .before .if1 .left) .0)
+    sound-long (a .state .now)
+    (write-passed (a .state .now) (length (a .contents .now)) (sym (j .write-call-refusal .ensures) ∙ c .before .if1 .left) .0)
 
 contents-at-requires : tie.Need-contents-at-requires
 contents-at-requires c κs =
     let j = c .before .before .before .before in
     let a = j .before .before .before .before .before .args in
-    write-passed (a .state .now) (length (a .contents .now)) (sym (j .write-call-refusal .ensures) ∙ c .before .before .before .if1 .left) .1
+    write-passed (a .state .now) (length (a .contents .now))
+    (sym (j .write-call-refusal .ensures) ∙ c .before .before .before .if1 .left) .1
 
 write-requires : tie.Need-write-requires
 write-requires c κs = search needs
@@ -65,7 +68,9 @@ returns-2 c =
     let e = sym (j .write-call-refusal .ensures) ∙ tested .if1 .left in
     let r : w .write .result ≡ stereoWriting (a .state .now) (a .contents .now) (length (a .out .now)) =
     w .write .ensures .0 ∙ rw (state .state-at .ensures, wanted .contents-at .ensures) in
-    let out : w .write .last .0 ≡ writtenOver (stereoWriting (a .state .now) (a .contents .now) (length (a .out .now))) (stateAt (a .state .now)) (contentsAt (a .contents .now)) (a .out .now) =
+    let out : w .write .last .0
+    ≡ writtenOver (stereoWriting (a .state .now) (a .contents .now) (length (a .out .now))) (stateAt (a .state .now))
+    (contentsAt (a .contents .now)) (a .out .now) =
     w .write .ensures .1 ∙ rw (r, state .state-at .ensures, wanted .contents-at .ensures) in
     let ends = contents-refused (a .state .now) (a .contents .now) (a .out .now) e (rw r at (c .before .if2 .taken)) in
     (ap (λ (z : Written). z .number) r ∙ ends .0, (ends .1 .0, (ends .1 .1 .0, out ∙ ends .1 .1 .1)))
@@ -76,7 +81,8 @@ put-state-requires c κs =
     let tested = w .before .before .before .before .before .before in
     let j = tested .before in
     let a = j .before .before .before .before .before .args in
-    sound-long (a .state .now) (write-passed (a .state .now) (length (a .contents .now)) (sym (j .write-call-refusal .ensures) ∙ tested .if1 .left) .0)
+    sound-long (a .state .now)
+    (write-passed (a .state .now) (length (a .contents .now)) (sym (j .write-call-refusal .ensures) ∙ tested .if1 .left) .0)
 
 word-of-requires : tie.Need-word-of-requires
 word-of-requires c κs = search needs
@@ -86,7 +92,8 @@ slice-aggregate-put c = search needs
 
 put-requires : tie.Need-put-requires
 put-requires c κs =
-    let w = c .before .before .before .before .before .before .before .before .before .before .before in
+    let at-before = c .before .before .before .before .before .before .before .before .before .before in
+    let w = at-before .before in
     let tested = w .before .before .before .before .before .before in
     let j = tested .before in
     let a = j .before .before .before .before .before .args in
@@ -105,7 +112,9 @@ same-length-7 c = search needs
 
 returns-3 : tie.Need-returns-3
 returns-3 c =
-    let w = c .before .before .before .before .before .before .before .before .before .before .before .before .before .before in
+    let at-before = c .before .before .before .before .before .before .before in
+    let at-before-2 = at-before .before .before .before .before .before .before in
+    let w = at-before-2 .before in
     let wanted = w .before .before in
     let state = wanted .before .before in
     let tested = state .before .before in
@@ -114,12 +123,24 @@ returns-3 c =
     let e = sym (j .write-call-refusal .ensures) ∙ tested .if1 .left in
     let r : w .write .result ≡ stereoWriting (a .state .now) (a .contents .now) (length (a .out .now)) =
     w .write .ensures .0 ∙ rw (state .state-at .ensures, wanted .contents-at .ensures) in
-    let out : w .write .last .0 ≡ writtenOver (stereoWriting (a .state .now) (a .contents .now) (length (a .out .now))) (stateAt (a .state .now)) (contentsAt (a .contents .now)) (a .out .now) =
+    let out : w .write .last .0
+    ≡ writtenOver (stereoWriting (a .state .now) (a .contents .now) (length (a .out .now))) (stateAt (a .state .now))
+    (contentsAt (a .contents .now)) (a .out .now) =
     w .write .ensures .1 ∙ rw (r, state .state-at .ensures, wanted .contents-at .ensures) in
-    let put = c .before .before .before .before .before .before .before .before in
+    let put = at-before .before in
     let ends = accepted (a .state .now) (a .contents .now) (a .out .now) e (rw r at (put .before .before .if2 .left)) in
-    let bits = c .before .before in
-    (ends .0, (put .put-state .ensures ∙ rw r (ends .1 .0), (bits .put .ensures ∙ rw (bits .before .before .before .word-of .ensures, r) (ends .1 .1 .0), out ∙ ends .1 .1 .1)))
+    let bits = c .before .before in (
+      ends .0,
+      (
+        put .put-state .ensures
+            ∙ rw r (ends .1 .0),
+        (
+          bits .put .ensures ∙ rw (bits .before .before .before .word-of .ensures, r) (ends .1 .1 .0),
+          out
+              ∙ ends .1 .1 .1,
+        ),
+      ),
+    )
 
 pub oarcradler-write-stereo-spec : {M : Type 1} → statement M
 oarcradler-write-stereo-spec =

@@ -37,11 +37,14 @@ pair-at-requires-2 c κs = search needs
 
 returns : tie.Need-returns Inv-loop μ-loop
 returns c =
-    let l = c .before .before .before .before .loop in
-    let x = c .before .before .before .before .before .before .args in
+    let at-loop-test = c .before .before .before in
+    let at-loop = at-loop-test .before in
+    let entry = at-loop .before .before in
+    let l = at-loop .loop in
+    let x = entry .args in
     let h : pairAt (x .image .now) (2 * l .k + 6) < pairAt (x .image .now) (2 * l .k + 4) =
     rw (← (c .before .before .pair-at .ensures .0), ← (c .before .pair-at2 .ensures .0)) (c .if1 .taken) in
-    sym (l .inv .1 ∙ rising-stop (x .image .now) (l .k) (x .n) (c .before .before .before .loop-test .taken) h)
+    sym (l .inv .1 ∙ rising-stop (x .image .now) (l .k) (x .n) (at-loop-test .loop-test .taken) h)
 
 add-k : tie.Need-add-k Inv-loop μ-loop
 add-k c = search needs
@@ -51,11 +54,14 @@ loop-less c = search needs
 
 loop-again : tie.Need-loop-again Inv-loop μ-loop
 loop-again c =
-    let l = c .before .before .before .before .loop in
-    let x = c .before .before .before .before .before .before .args in
+    let at-loop-test = c .before .before .before in
+    let at-loop = at-loop-test .before in
+    let entry = at-loop .before .before in
+    let l = at-loop .loop in
+    let x = entry .args in
     let h : pairAt (x .image .now) (2 * l .k + 4) ≤ pairAt (x .image .now) (2 * l .k + 6) =
     rw (← (c .before .before .pair-at .ensures .0), ← (c .before .pair-at2 .ensures .0)) (c .if1 .left) in
-    (omega arith, l .inv .1 ∙ rising-more (x .image .now) (l .k) (x .n) (c .before .before .before .loop-test .taken) h)
+    (omega arith, l .inv .1 ∙ rising-more (x .image .now) (l .k) (x .n) (at-loop-test .loop-test .taken) h)
 
 returns-2 : tie.Need-returns-2 Inv-loop μ-loop
 returns-2 c =

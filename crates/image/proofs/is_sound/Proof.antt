@@ -32,9 +32,16 @@ returns-3 c =
 returns-4 : tie.Need-returns-4
 unfolding soundImage
 returns-4 c =
-    let s = c .before .before .before .before .before .before .args .image .now in
+    let entry = c .before .before .before .before .before .before in
+    let s = entry .args .image .now in
     let n = c .before .before .pair-at in
-    rw (← (n .ensures .0), le-leb (length s) 65535 (omega arith), le-leb 6 (length s) (omega arith), eq-eqb (n .result % 2) 0 (omega arith), lt-leb _ _ (c .if4 .taken))
+    rw (
+      ← (n .ensures .0),
+      le-leb (length s) 65535 (omega arith),
+      le-leb 6 (length s) (omega arith),
+      eq-eqb (n .result % 2) 0 (omega arith),
+      lt-leb _ _ (c .if4 .taken),
+    )
 
 mul-if5 : tie.Need-mul-if5
 mul-if5 c = search needs
@@ -45,8 +52,10 @@ add-if5 c = search needs
 returns-5 : tie.Need-returns-5
 unfolding soundImage
 returns-5 c =
-    let s = c .before .before .before .before .before .before .before .args .image .now in
-    let n = c .before .before .before .pair-at in
+    let at-pair-at = c .before .before .before in
+    let entry = at-pair-at .before .before .before .before in
+    let s = entry .args .image .now in
+    let n = at-pair-at .pair-at in
     rw (
       ← (n .ensures .0),
       le-leb (length s) 65535 (omega arith),
@@ -68,8 +77,10 @@ add-if6 c = search needs
 returns-6 : tie.Need-returns-6
 unfolding soundImage
 returns-6 c =
-    let s = c .before .before .before .before .before .before .before .before .before .args .image .now in
-    let n = c .before .before .before .before .before .pair-at in
+    let at-pair-at = c .before .before .before .before .before in
+    let entry = at-pair-at .before .before .before .before in
+    let s = entry .args .image .now in
+    let n = at-pair-at .pair-at in
     let first = c .before .pair-at2 in
     rw (
       ← (n .ensures .0),
@@ -88,9 +99,12 @@ is-rising-requires c κs = search needs
 returns-7 : tie.Need-returns-7
 unfolding soundImage
 returns-7 c =
-    let s = c .before .before .before .before .before .before .before .before .before .before .before .args .image .now in
-    let n = c .before .before .before .before .before .before .before .pair-at in
-    let first = c .before .before .before .pair-at2 in
+    let at-pair-at2 = c .before .before .before in
+    let at-pair-at = at-pair-at2 .before .before .before .before in
+    let entry = at-pair-at .before .before .before .before in
+    let s = entry .args .image .now in
+    let n = at-pair-at .pair-at in
+    let first = at-pair-at2 .pair-at2 in
     rw (
       ← (n .ensures .0),
       le-leb (length s) 65535 (omega arith),
@@ -116,9 +130,12 @@ pair-at-requires-3 c κs = search needs
 returns-8 : tie.Need-returns-8
 unfolding soundImage
 returns-8 c =
-    let s = c .before .before .before .before .before .before .before .before .before .before .before .before .args .image .now in
-    let n = c .before .before .before .before .before .before .before .before .pair-at in
-    let first = c .before .before .before .before .pair-at2 in
+    let at-pair-at2 = c .before .before .before .before in
+    let at-pair-at = at-pair-at2 .before .before .before .before in
+    let entry = at-pair-at .before .before .before .before in
+    let s = entry .args .image .now in
+    let n = at-pair-at .pair-at in
+    let first = at-pair-at2 .pair-at2 in
     rw (
       ← (n .ensures .0),
       le-leb (length s) 65535 (omega arith),

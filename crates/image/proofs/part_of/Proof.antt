@@ -47,36 +47,54 @@ pair-at-requires c κs =
 
 mul-pair-at-2 : tie.Need-mul-pair-at-2
 mul-pair-at-2 c =
-    let h = c .before .before .before .before .read-header in
-    let x = c .before .before .before .before .before .before .args in
-    let f = header-known (x .image .now) (x .k) (h .ensures) (c .before .before .before .if1 .left) (c .before .if2 .left) in
+    let at-if1 = c .before .before .before in
+    let at-read-header = at-if1 .before in
+    let entry = at-read-header .before .before in
+    let h = at-read-header .read-header in
+    let x = entry .args in
+    let f = header-known (x .image .now) (x .k) (h .ensures) (at-if1 .if1 .left) (c .before .if2 .left) in
     search needs
 
 add-pair-at-2 : tie.Need-add-pair-at-2
 add-pair-at-2 c =
-    let h = c .before .before .before .before .read-header in
-    let x = c .before .before .before .before .before .before .args in
-    let f = header-known (x .image .now) (x .k) (h .ensures) (c .before .before .before .if1 .left) (c .before .if2 .left) in
+    let at-if1 = c .before .before .before in
+    let at-read-header = at-if1 .before in
+    let entry = at-read-header .before .before in
+    let h = at-read-header .read-header in
+    let x = entry .args in
+    let f = header-known (x .image .now) (x .k) (h .ensures) (at-if1 .if1 .left) (c .before .if2 .left) in
     search needs
 
 pair-at-requires-2 : tie.Need-pair-at-requires-2
 pair-at-requires-2 c κs =
-    let h = c .before .before .before .before .read-header in
-    let x = c .before .before .before .before .before .before .args in
-    let f = header-known (x .image .now) (x .k) (h .ensures) (c .before .before .before .if1 .left) (c .before .if2 .left) in
+    let at-if1 = c .before .before .before in
+    let at-read-header = at-if1 .before in
+    let entry = at-read-header .before .before in
+    let h = at-read-header .read-header in
+    let x = entry .args in
+    let f = header-known (x .image .now) (x .k) (h .ensures) (at-if1 .if1 .left) (c .before .if2 .left) in
     omega arith
 
 returns-3 : tie.Need-returns-3
 unfolding partOf
 returns-3 c =
-    let h = c .before .before .before .before .before .read-header in
-    let x = c .before .before .before .before .before .before .before .args in
-    let f = header-known (x .image .now) (x .k) (h .ensures) (c .before .before .before .before .if1 .left) (c .before .before .if2 .left) in
+    let at-if1 = c .before .before .before .before in
+    let at-read-header = at-if1 .before in
+    let entry = at-read-header .before .before in
+    let h = at-read-header .read-header in
+    let x = entry .args in
+    let f = header-known (x .image .now) (x .k) (h .ensures) (at-if1 .if1 .left) (c .before .before .if2 .left) in
     let s = x .image .now in
     let q : 2 * (x .k + 1) + 4 ≡ 2 * x .k + 6 = omega arith in
     let a = c .before .pair-at .ensures .0 in
     let b : c .pair-at2 .result ≡ pairAt s (2 * (x .k + 1) + 4) = c .pair-at2 .ensures .0 ∙ rw q in (
-      rw (← (h .ensures), eq-eqb (h .result .number) 0 (c .before .before .before .before .if1 .left), lt-ltb (x .k) (h .result .count) (c .before .before .if2 .left), a, b),
+      rw (
+        ← (h .ensures),
+        eq-eqb (h .result .number) 0 (at-if1 .if1 .left),
+        lt-ltb (x .k) (h .result .count) (c .before .before .if2 .left),
+        a,
+        b,
+      ),
       rw (a, b) (part-order s (f .0) (x .k) (f .1)),
       rw b (part-inside s (f .0) (x .k) (f .1)),
     )

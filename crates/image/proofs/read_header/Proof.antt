@@ -34,7 +34,8 @@ returns-2 c =
     let i = c .before .before .before in
     let s = i .before .before .before .args .image .now in
     let e : soundImage s ≡ true = sym (i .before .is-sound .ensures) ∙ not-false (i .before .is-sound .result) (i .if1 .left) in
-    let k : knownIndex (c .before .before .pair-at .result) ≡ false = sym (c .before .is-known .ensures) ∙ not-true (c .before .is-known .result) (c .if2 .taken) in
+    let k : knownIndex (c .before .before .pair-at .result) ≡ false = sym (c .before .is-known .ensures)
+    ∙ not-true (c .before .is-known .result) (c .if2 .taken) in
     rw (e, ← (c .before .before .pair-at .ensures .0), k)
 
 pair-at-requires-2 : tie.Need-pair-at-requires-2
@@ -58,7 +59,8 @@ returns-3 c =
     let s = i .before .before .before .args .image .now in
     let index = c .before .before .before .pair-at in
     let e : soundImage s ≡ true = sym (i .before .is-sound .ensures) ∙ not-false (i .before .is-sound .result) (i .if1 .left) in
-    let k : knownIndex (index .result) ≡ true = sym (c .before .before .is-known .ensures) ∙ not-false (c .before .before .is-known .result) (c .before .if2 .left) in
+    let k : knownIndex (index .result) ≡ true = sym (c .before .before .is-known .ensures)
+    ∙ not-false (c .before .before .is-known .result) (c .before .if2 .left) in
     rw (e, ← (index .ensures .0), k, c .pair-at2 .ensures .0)
 
 pub read-header-spec : {M : Type 1} → statement M

@@ -61,7 +61,9 @@ count-sounding-requires c κs = search needs
 returns-2 : tie.Need-returns-2
 unfolding channelIn
 returns-2 c =
-    let read = c .before .before .before .before .before .before .before .before in
+    let at-if1 = c .before .before .before in
+    let at-before = at-if1 .before .before .before .before in
+    let read = at-before .before in
     let books = read .before .before .before .before in
     let factors = books .before in
     let lines = factors .before in
@@ -71,7 +73,7 @@ returns-2 c =
     let x = channelIn (a .index) (a .part .now) in
     let l : read .read-channel .last .1 .1 .1 .1 .0 ≡ linesAfter x (replicate 1024 (pos 0)) =
     read .read-channel .ensures .1 .0 ∙ rw (lines .no-lines .ensures, factors .no-bands .ensures, books .no-bands2 .ensures) in
-    let row = row-accepted x (rw r at (c .before .before .before .if1 .left)) in
+    let row = row-accepted x (rw r at (at-if1 .if1 .left)) in
     rw (c .before .before .wide2 .ensures .0, c .count-sounding .ensures, l, r) row
 
 pub channel-row-spec : {M : Type 1} → statement M

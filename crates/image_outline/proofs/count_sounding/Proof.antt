@@ -38,8 +38,12 @@ loop-less c = search needs
 loop-again : tie.Need-loop-again Inv-loop μ-loop
 loop-again c =
     let l = c .before .before .before .loop in
-    let xs = c .before .before .before .before .args .lines .now in
-    (omega arith, sounding-more xs (l .i) (l .n) (omega arith) (omega arith) (l .inv .1) (λ z. c .if1 .taken (silent-bits (getD xs (l .i - 1) (pos 0)) z)), omega arith)
+    let xs = c .before .before .before .before .args .lines .now in (
+      omega arith,
+      sounding-more xs (l .i) (l .n) (omega arith) (omega arith) (l .inv .1)
+          (λ z. c .if1 .taken (silent-bits (getD xs (l .i - 1) (pos 0)) z)),
+      omega arith,
+    )
 
 loop-less-2 : tie.Need-loop-less-2 Inv-loop μ-loop
 loop-less-2 c = search needs
@@ -47,8 +51,12 @@ loop-less-2 c = search needs
 loop-again-2 : tie.Need-loop-again-2 Inv-loop μ-loop
 loop-again-2 c =
     let l = c .before .before .before .loop in
-    let xs = c .before .before .before .before .args .lines .now in
-    (omega arith, sounding-same xs (l .i) (l .n) (omega arith) (omega arith) (l .inv .1) (silent (getD xs (l .i - 1) (pos 0)) (record { sfits = c .before .if12 .given }) (c .if1 .left)), omega arith)
+    let xs = c .before .before .before .before .args .lines .now in (
+      omega arith,
+      sounding-same xs (l .i) (l .n) (omega arith) (omega arith) (l .inv .1)
+          (silent (getD xs (l .i - 1) (pos 0)) (record { sfits = c .before .if12 .given }) (c .if1 .left)),
+      omega arith,
+    )
 
 returns : tie.Need-returns Inv-loop μ-loop
 returns c =

@@ -66,7 +66,8 @@ loop-again c =
     let there = part-there (a .image .now) (a .count) (a .index) (l .k) (pre .3) (omega arith) in
     let p = part .part-of .ensures .0 ∙ there in
     let s = a .image .now in
-    let state : turn .turn-of .result .state ≡ stateBefore s (l .k + 1) = turn .turn-of .ensures .1 ∙ rw (p, l .inv .1) (state-more s (a .count) (a .index) (l .k) (pre .3)) in
+    let state : turn .turn-of .result .state ≡ stateBefore s (l .k + 1) = turn .turn-of .ensures .1
+    ∙ rw (p, l .inv .1) (state-more s (a .count) (a .index) (l .k) (pre .3)) in
     let row = rw (p, l .inv .1) at (turn .turn-of .ensures .0) in
     let t = turn .turn-of .result .row in
     let ys = t .number ∷ t .first ∷ t .second ∷ t .bits ∷ [] in

@@ -50,7 +50,8 @@ returns c =
     let at = c .args .at in
     let row = c .args .row in
     let first = put-one s at (row .number) (omega arith) in
-    let second = put-next s at _ 1 _ 1 first (put-one (set s at (row .number)) (at + 1) (row .first) (simp length-set (omega arith))) (omega arith) in
+    let second = put-next s at _ 1 _ 1 first (put-one (set s at (row .number)) (at + 1) (row .first) (simp length-set (omega arith)))
+    (omega arith) in
     let third = put-next s at _ 2 _ 1 second (put-one _ (at + 2) (row .second) (simp length-set (omega arith))) (omega arith) in
     put-next s at _ 3 _ 1 third (put-one _ (at + 3) (row .bits) (simp length-set (omega arith))) (omega arith) .0
 

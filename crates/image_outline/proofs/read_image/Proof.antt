@@ -28,8 +28,10 @@ mul-if2 c =
 
 returns-2 : tie.Need-returns-2
 returns-2 c =
-    let a = c .before .before .before .before .before .before .args in
-    let h = c .before .before .before .read-header .ensures in
+    let at-read-header = c .before .before .before in
+    let entry = at-read-header .before .before .before in
+    let a = entry .args in
+    let h = at-read-header .read-header .ensures in
     no-room (a .image .now) (a .rows .now) (rw h at (c .before .if1 .left)) (rw h at (c .if2 .taken))
 
 fill-rows-requires : tie.Need-fill-rows-requires
@@ -48,7 +50,8 @@ same-length c = search needs
 
 returns-3 : tie.Need-returns-3
 returns-3 c =
-    let header = c .before .before .before .before .before .before .before in
+    let at-before = c .before .before .before .before .before .before in
+    let header = at-before .before in
     let a = header .before .before .before .args in
     let h = header .read-header .ensures in
     let filled = c .before .before in

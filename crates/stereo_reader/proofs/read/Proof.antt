@@ -28,7 +28,12 @@ refused-requires-3 c κs = search needs
 
 returns-3 : tie.Need-returns-3
 unfolding readFrom
-returns-3 c = c .refused3 .ensures ∙ rw (le-leb _ _ (c .before .before .before .before .if1 .left), le-leb _ _ (c .before .before .before .if2 .left), sym (c .before .before .is-sound .ensures) ∙ not-true _ (c .before .if3 .taken))
+returns-3 c = c .refused3 .ensures
+    ∙ rw (
+      le-leb _ _ (c .before .before .before .before .if1 .left),
+      le-leb _ _ (c .before .before .before .if2 .left),
+      sym (c .before .before .is-sound .ensures) ∙ not-true _ (c .before .if3 .taken),
+    )
 
 part-read-bytes-start : tie.Need-part-read-bytes-start
 part-read-bytes-start c = search needs
@@ -41,7 +46,12 @@ read-bytes-requires c κs = search needs
 
 returns-4 : tie.Need-returns-4
 unfolding readFrom
-returns-4 c = c .read-bytes .ensures ∙ rw (le-leb _ _ (c .before .before .before .before .before .if1 .left), le-leb _ _ (c .before .before .before .before .if2 .left), sym (c .before .before .before .is-sound .ensures) ∙ not-false _ (c .before .before .if3 .left))
+returns-4 c = c .read-bytes .ensures
+    ∙ rw (
+      le-leb _ _ (c .before .before .before .before .before .if1 .left),
+      le-leb _ _ (c .before .before .before .before .if2 .left),
+      sym (c .before .before .before .is-sound .ensures) ∙ not-false _ (c .before .before .if3 .left),
+    )
 
 pub read-spec : {M : Type 1} → statement M
 read-spec =

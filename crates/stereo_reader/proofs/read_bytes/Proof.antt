@@ -45,7 +45,8 @@ returns c =
     let e = m .before .before in
     let r = e .before .before .before in
     let f = r .before .before .before in
-    let q = rw (f .read-from .ensures, f .before .looked-at .ensures) at (ended-is (r .read-payload .result .contents) (r .read-payload .ensures) (e .ended .given .1)) in
+    let q = rw (f .read-from .ensures, f .before .looked-at .ensures) at
+    (ended-is (r .read-payload .result .contents) (r .read-payload .ensures) (e .ended .given .1)) in
     c .refused-at .ensures ∙ bytes-left _ _ _ _ q (rw (m .remaining .ensures, f .before .looked-at .ensures) at (c .before .if1 .taken))
 
 taken-requires : tie.Need-taken-requires
@@ -63,7 +64,8 @@ returns-2 c =
     let e = m .before .before in
     let r = e .before .before .before in
     let f = r .before .before .before in
-    let q = rw (f .read-from .ensures, f .before .looked-at .ensures) at (ended-is (r .read-payload .result .contents) (r .read-payload .ensures) (e .ended .given .1)) in
+    let q = rw (f .read-from .ensures, f .before .looked-at .ensures) at
+    (ended-is (r .read-payload .result .contents) (r .read-payload .ensures) (e .ended .given .1)) in
     c .taken .ensures ∙ bytes-got _ _ _ _ q (rw (m .remaining .ensures, f .before .looked-at .ensures) at (c .before .if1 .left))
 
 returns-3 : tie.Need-returns-3
@@ -71,7 +73,8 @@ returns-3 c =
     let e = c .before .before in
     let r = e .before .before .before in
     let f = r .before .before .before in
-    let q = rw (f .read-from .ensures, f .before .looked-at .ensures) at (ended-is (r .read-payload .result .contents) (r .read-payload .ensures) (e .ended2 .given .1)) in
+    let q = rw (f .read-from .ensures, f .before .looked-at .ensures) at
+    (ended-is (r .read-payload .result .contents) (r .read-payload .ensures) (e .ended2 .given .1)) in
     c .refused-at2 .ensures ∙ bytes-refused _ _ _ _ q
 
 pub read-bytes-spec : {M : Type 1} → statement M

@@ -24,7 +24,12 @@ carried-requires c κs = search needs
 
 returns-2 : tie.Need-returns-2
 unfolding taken
-returns-2 c = rw (c .carried .ensures, c .before .read-from .ensures, sym (c .before .before .before .is-accepted .ensures) ∙ not-false _ (c .before .before .if1 .left))
+returns-2 c = rw (
+  c .carried .ensures,
+  c .before .read-from .ensures,
+  sym (c .before .before .before .is-accepted .ensures)
+      ∙ not-false _ (c .before .before .if1 .left),
+)
 
 pub taken-spec : {M : Type 1} → statement M
 taken-spec =

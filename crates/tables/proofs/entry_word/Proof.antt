@@ -45,9 +45,11 @@ mul-t9 c =
 
 shared-slice-read-t11 : tie.Need-shared-slice-read-t11
 shared-slice-read-t11 c =
-    let x = c .before .before .before .before .before .before .args in
-    let p = c .before .before .before .before .before .before .pre in
-    let f = c .before .before .before .first-of .ensures in
+    let at-first-of = c .before .before .before in
+    let entry = at-first-of .before .before .before in
+    let x = entry .args in
+    let p = entry .pre in
+    let f = at-first-of .first-of .ensures in
     let n = c .before .before .count-of .ensures in
     let l : length (x .codes .now) ≡ 1604 = ap length (p .0) ∙ codes-count in
     let m : length (x .lens .now) ≡ 1604 = ap length (p .1) ∙ lens-count in
@@ -56,9 +58,11 @@ shared-slice-read-t11 c =
 
 add-t12 : tie.Need-add-t12
 add-t12 c =
-    let x = c .before .before .before .before .before .before .args in
-    let p = c .before .before .before .before .before .before .pre in
-    let f = c .before .before .before .first-of .ensures in
+    let at-first-of = c .before .before .before in
+    let entry = at-first-of .before .before .before in
+    let x = entry .args in
+    let p = entry .pre in
+    let f = at-first-of .first-of .ensures in
     let n = c .before .before .count-of .ensures in
     let l : length (x .codes .now) ≡ 1604 = ap length (p .0) ∙ codes-count in
     let m : length (x .lens .now) ≡ 1604 = ap length (p .1) ∙ lens-count in
@@ -67,10 +71,13 @@ add-t12 c =
 
 shared-slice-read-t14 : tie.Need-shared-slice-read-t14
 shared-slice-read-t14 c =
-    let x = c .before .before .before .before .before .before .before .args in
-    let p = c .before .before .before .before .before .before .before .pre in
-    let f = c .before .before .before .before .first-of .ensures in
-    let n = c .before .before .before .count-of .ensures in
+    let at-count-of = c .before .before .before in
+    let at-first-of = at-count-of .before in
+    let entry = at-first-of .before .before .before in
+    let x = entry .args in
+    let p = entry .pre in
+    let f = at-first-of .first-of .ensures in
+    let n = at-count-of .count-of .ensures in
     let l : length (x .codes .now) ≡ 1604 = ap length (p .0) ∙ codes-count in
     let m : length (x .lens .now) ≡ 1604 = ap length (p .1) ∙ lens-count in
     let o = place-in (x .t) in
@@ -78,14 +85,18 @@ shared-slice-read-t14 c =
 
 returns-2 : tie.Need-returns-2
 returns-2 c =
-    let x = c .before .before .before .before .before .before .before .args in
-    let p = c .before .before .before .before .before .before .before .pre in
-    let f = c .before .before .before .before .first-of .ensures in
-    let n = c .before .before .before .count-of .ensures in
+    let at-count-of = c .before .before .before in
+    let at-first-of = at-count-of .before in
+    let entry = at-first-of .before .before .before in
+    let x = entry .args in
+    let p = entry .pre in
+    let f = at-first-of .first-of .ensures in
+    let n = at-count-of .count-of .ensures in
     let l : length (x .codes .now) ≡ 1604 = ap length (p .0) ∙ codes-count in
     let m : length (x .lens .now) ≡ 1604 = ap length (p .1) ∙ lens-count in
     let o = place-in (x .t) in
-    entry-is (x .t) (x .entry) (omega arith) (ap₂ (λ (s : List ℕ) (i : ℕ). getD s (i + x .entry) 0) (p .0) f) (ap₂ (λ (s : List ℕ) (i : ℕ). getD s (i + x .entry) 0) (p .1) f)
+    entry-is (x .t) (x .entry) (omega arith) (ap₂ (λ (s : List ℕ) (i : ℕ). getD s (i + x .entry) 0) (p .0) f)
+    (ap₂ (λ (s : List ℕ) (i : ℕ). getD s (i + x .entry) 0) (p .1) f)
 
 pub entry-word-spec : {M : Type 1} → statement M
 entry-word-spec =

@@ -35,8 +35,10 @@ shared-slice-read-compare-2 c = search needs
 
 compare-requires : tie.Need-compare-requires Inv-loop μ-loop
 compare-requires c κs =
-    let a = c .before .before .before .before .before .before .before .before in
-    (omega arith, a .pre .1 .narrow (c .before .before .before .loop .i) (omega arith))
+    let at-loop = c .before .before .before in
+    let at-before = at-loop .before .before .before .before in
+    let a = at-before .before in
+    (omega arith, a .pre .1 .narrow (at-loop .loop .i) (omega arith))
 
 enum-told : tie.Need-enum-told Inv-loop μ-loop
 enum-told c = search needs
@@ -48,7 +50,9 @@ shared-slice-read-t18 : tie.Need-shared-slice-read-t18 Inv-loop μ-loop
 shared-slice-read-t18 c = search needs
 
 cast-t19 : tie.Need-cast-t19 Inv-loop μ-loop
-cast-t19 c = omega (arith, c .shared-slice-known6 .given (c .before .before .before .before .before .before .before .loop .i))
+cast-t19 c =
+    let at-loop = c .before .before .before .before .before .before .before in
+    omega (arith, c .shared-slice-known6 .given (at-loop .loop .i))
 
 add-t20 : tie.Need-add-t20 Inv-loop μ-loop
 add-t20 c =
@@ -60,7 +64,9 @@ add-t20 c =
     let x = a .args in
     let hc : i < length (x .codes .now) = omega arith in
     let narrow = a .pre .1 .narrow i (l .loop-test .taken) in
-    let w = turn-found (x .codes .now) (x .lens .now) (x .s .now) (x .at) (x .end) i (l .before .loop .short) hc (l .loop-test .taken) narrow (b .first-bits .ensures .0) (b .first-bits .ensures .1) (j .compare .ensures) (c .before .enum-told .given .1) in
+    let w = turn-found (x .codes .now) (x .lens .now) (x .s .now) (x .at) (x .end) i (l .before .loop .short) hc
+    (l .loop-test .taken) narrow (b .first-bits .ensures .0) (b .first-bits .ensures .1) (j .compare .ensures)
+    (c .before .enum-told .given .1) in
     omega arith
 
 returns : tie.Need-returns Inv-loop μ-loop
@@ -73,7 +79,9 @@ returns c =
     let x = a .args in
     let hc : i < length (x .codes .now) = omega arith in
     let narrow = a .pre .1 .narrow i (l .loop-test .taken) in
-    turn-found (x .codes .now) (x .lens .now) (x .s .now) (x .at) (x .end) i (l .before .loop .short) hc (l .loop-test .taken) narrow (b .first-bits .ensures .0) (b .first-bits .ensures .1) (j .compare .ensures) (c .before .enum-told .given .1) .0 ∙ sym (l .before .loop .inv .1)
+    turn-found (x .codes .now) (x .lens .now) (x .s .now) (x .at) (x .end) i (l .before .loop .short) hc (l .loop-test .taken) narrow
+    (b .first-bits .ensures .0) (b .first-bits .ensures .1) (j .compare .ensures) (c .before .enum-told .given .1) .0
+    ∙ sym (l .before .loop .inv .1)
 
 enum-told-2 : tie.Need-enum-told-2 Inv-loop μ-loop
 enum-told-2 c = search needs
@@ -99,21 +107,29 @@ loop-again c =
     let narrow = a .pre .1 .narrow i (l .loop-test .taken) in (
       omega arith,
       ⊎-elim
-          (λ w. rw (w .2) (l .before .loop .inv .1 ∙ turn-cut (x .codes .now) (x .lens .now) (x .s .now) (x .at) (x .end) i (l .before .loop .short) hc (l .loop-test .taken) narrow (b .first-bits .ensures .0) (b .first-bits .ensures .1) (j .compare .ensures) (w .1 .given .1)))
-          (λ w. rw (w .2) (l .before .loop .inv .1 ∙ turn-neither (x .codes .now) (x .lens .now) (x .s .now) (x .at) (x .end) i (l .before .loop .short) hc (l .loop-test .taken) narrow (b .first-bits .ensures .0) (b .first-bits .ensures .1) (j .compare .ensures) (w .1 .given .1)))
+          (λ w. rw (w .2) (l .before .loop .inv .1
+          ∙ turn-cut (x .codes .now) (x .lens .now) (x .s .now) (x .at) (x .end) i (l .before .loop .short) hc
+          (l .loop-test .taken) narrow (b .first-bits .ensures .0) (b .first-bits .ensures .1) (j .compare .ensures)
+          (w .1 .given .1)))
+          (λ w. rw (w .2) (l .before .loop .inv .1
+          ∙ turn-neither (x .codes .now) (x .lens .now) (x .s .now) (x .at) (x .end) i (l .before .loop .short) hc
+          (l .loop-test .taken) narrow (b .first-bits .ensures .0) (b .first-bits .ensures .1) (j .compare .ensures)
+          (w .1 .given .1)))
           (c .match .came),
     )
 
 returns-2 : tie.Need-returns-2 Inv-loop μ-loop
 returns-2 c =
+    let entry = c .before .before .before .before .before .before .before in
     let l = c .before .before .loop in
-    let x = c .before .before .before .before .before .before .before .args in
+    let x = entry .args in
     scan-short (x .codes .now) (x .lens .now) (x .s .now) (x .at) (x .end) (l .i) (l .short) (c .if1 .taken) (omega arith) ∙ sym (l .inv .1)
 
 returns-3 : tie.Need-returns-3 Inv-loop μ-loop
 returns-3 c =
+    let entry = c .before .before .before .before .before .before .before in
     let l = c .before .before .loop in
-    let x = c .before .before .before .before .before .before .before .args in
+    let x = entry .args in
     scan-none (x .codes .now) (x .lens .now) (x .s .now) (x .at) (x .end) (l .i) (l .short) (c .if1 .left) (omega arith) ∙ sym (l .inv .1)
 
 pub read-word-spec : {M : Type 1} → statement M

@@ -18,7 +18,12 @@ low-byte-requires-4 c κs = search needs
 
 returns : tie.Need-returns
 unfolding wordOf
-returns c = rw (c .before .before .before .low-byte .ensures, c .before .before .low-byte2 .ensures, c .before .low-byte3 .ensures, c .low-byte4 .ensures)
+returns c = rw (
+  c .before .before .before .low-byte .ensures,
+  c .before .before .low-byte2 .ensures,
+  c .before .low-byte3 .ensures,
+  c .low-byte4 .ensures,
+)
 
 pub word-of-spec : {M : Type 1} → statement M
 word-of-spec =

@@ -24,7 +24,8 @@ same-length c = search needs
 
 returns : tie.Need-returns
 returns c =
-    let a = c .before .before .before .before .before .before .before .args in
+    let entry = c .before .before .before .before .before .before .before in
+    let a = entry .args in
     let long = length-take-le (a .n) (a .scratch .now) (omega arith) in
     c .before .before .put .ensures ∙ over-front (a .out .now) (take (a .n) (a .scratch .now)) (a .n) long
 

@@ -56,7 +56,8 @@ loop-again c =
     let l = c .before .before .before .before .before in
     let a = l .before .before .args in
     let e : c .before .before .set-bit .last .0 ≡ put (a .out .now) (a .at) (a .v / 2 ^ (a .n - (l .loop .k + 1))) (l .loop .k + 1) =
-    c .before .before .set-bit .ensures ∙ ap (λ (o : List ℕ). setBit o (a .at + l .loop .k) (a .v / 2 ^ (a .n - (l .loop .k + 1)) % 2)) (l .loop .inv .2)
+    c .before .before .set-bit .ensures
+    ∙ ap (λ (o : List ℕ). setBit o (a .at + l .loop .k) (a .v / 2 ^ (a .n - (l .loop .k + 1)) % 2)) (l .loop .inv .2)
     ∙ put-more (a .out .now) (a .at) (a .v) (a .n) (l .loop .k) (search needs) in
     (search needs, ap length e ∙ put-length (a .out .now) (a .at) (a .v / 2 ^ (a .n - (l .loop .k + 1))) (l .loop .k + 1), e)
 

@@ -15,20 +15,23 @@ shr-result : tie.Need-shr-result
 shr-result c = search needs
 
 mul-result : tie.Need-mul-result
-mul-result c = rw (one-shl 64 (c .args .k) (omega arith)) (omega (arith, bit-weight (c .args .x / 2 ^ c .args .k % 2) (c .args .k) (omega arith) (omega arith)))
+mul-result c = rw (one-shl 64 (c .args .k) (omega arith))
+    (omega (arith, bit-weight (c .args .x / 2 ^ c .args .k % 2) (c .args .k) (omega arith) (omega arith)))
 
 sub-result : tie.Need-sub-result
 sub-result c = rw (one-shl 64 (c .args .k) (omega arith)) (taken-le (c .args .x) (c .args .k))
 
 mul-result-2 : tie.Need-mul-result-2
-mul-result-2 c = rw (one-shl 64 (c .args .k) (omega arith)) (omega (arith, bit-weight (c .args .b) (c .args .k) (omega arith) (omega arith)))
+mul-result-2 c = rw (one-shl 64 (c .args .k) (omega arith))
+    (omega (arith, bit-weight (c .args .b) (c .args .k) (omega arith) (omega arith)))
 
 add-result : tie.Need-add-result
 add-result c = rw (one-shl 64 (c .args .k) (omega arith)) (omega (arith, bit-weight (c .args .b) (c .args .k) (omega arith) (omega arith)))
 
 cast-result : tie.Need-cast-result
 unfolding replaced
-cast-result c = rw (one-shl 64 (c .args .k) (omega arith)) (omega (arith, replaced-lt (c .args .x) (c .args .k) (c .args .b) (omega arith) (omega arith) (omega arith)))
+cast-result c = rw (one-shl 64 (c .args .k) (omega arith))
+    (omega (arith, replaced-lt (c .args .x) (c .args .k) (c .args .b) (omega arith) (omega arith) (omega arith)))
 
 returns : tie.Need-returns
 unfolding replaced

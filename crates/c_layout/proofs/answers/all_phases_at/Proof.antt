@@ -27,7 +27,12 @@ phases-at-requires-4 c κs = search needs
 
 returns : tie.Need-returns
 unfolding allPhasesAt
-returns c = rw (c .before .before .before .phases-at .ensures, c .before .before .phases-at2 .ensures, c .before .phases-at3 .ensures, c .phases-at4 .ensures)
+returns c = rw (
+  c .before .before .before .phases-at .ensures,
+  c .before .before .phases-at2 .ensures,
+  c .before .phases-at3 .ensures,
+  c .phases-at4 .ensures,
+)
 
 pub all-phases-at-spec : {M : Type 1} → statement M
 all-phases-at-spec =

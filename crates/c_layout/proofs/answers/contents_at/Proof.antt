@@ -21,7 +21,13 @@ extension-at-requires c κs = search needs
 
 returns : tie.Need-returns
 unfolding contentsAt
-returns c = rw (c .before .before .before .before .header-at .ensures, c .before .before .before .frame-at .ensures, c .before .before .rows-at .ensures, c .before .rows-at2 .ensures, c .extension-at .ensures)
+returns c = rw (
+  c .before .before .before .before .header-at .ensures,
+  c .before .before .before .frame-at .ensures,
+  c .before .before .rows-at .ensures,
+  c .before .rows-at2 .ensures,
+  c .extension-at .ensures,
+)
 
 pub contents-at-spec : {M : Type 1} → statement M
 contents-at-spec =

@@ -45,7 +45,21 @@ wide-requires-5 c κs = search needs
 
 returns : tie.Need-returns
 unfolding extensionAt
-returns c = rw (c .before .before .before .before .wide3 .ensures, c .before .before .wide4 .ensures, c .wide5 .ensures, c .before .before .before .before .before .before .before .before .before .before .wide .ensures, c .before .before .before .before .before .before .before .before .before .before .before .before .all-phases-at .ensures, c .before .before .before .before .before .before .before .before .count-of .ensures, c .before .before .before .before .before .before .wide2 .ensures)
+returns c =
+    let at-wide3 = c .before .before .before .before in
+    let at-wide2 = at-wide3 .before .before in
+    let at-count-of = at-wide2 .before .before in
+    let at-wide = at-count-of .before .before in
+    let at-all-phases-at = at-wide .before .before in
+    rw (
+      at-wide3 .wide3 .ensures,
+      c .before .before .wide4 .ensures,
+      c .wide5 .ensures,
+      at-wide .wide .ensures,
+      at-all-phases-at .all-phases-at .ensures,
+      at-count-of .count-of .ensures,
+      at-wide2 .wide2 .ensures,
+    )
 
 pub extension-at-spec : {M : Type 1} → statement M
 extension-at-spec =

@@ -22,7 +22,14 @@ byte-of-requires-5 : tie.Need-byte-of-requires-5
 byte-of-requires-5 c κs = search needs
 
 returns : tie.Need-returns
-returns c = rw (c .before .before .before .before .before .byte-of .ensures, c .before .before .before .before .byte-of2 .ensures, c .before .before .before .byte-of3 .ensures, c .before .before .byte-of4 .ensures, c .before .low-byte .ensures, c .byte-of5 .ensures)
+returns c = rw (
+  c .before .before .before .before .before .byte-of .ensures,
+  c .before .before .before .before .byte-of2 .ensures,
+  c .before .before .before .byte-of3 .ensures,
+  c .before .before .byte-of4 .ensures,
+  c .before .low-byte .ensures,
+  c .byte-of5 .ensures,
+)
 
 pub extension-bytes-spec : {M : Type 1} → statement M
 extension-bytes-spec =

@@ -42,7 +42,19 @@ count-of-requires c κs = search needs
 
 returns : tie.Need-returns
 unfolding frameAt
-returns c = rw (c .before .before .before .before .before .before .before .before .before .before .wide .ensures, c .before .before .before .before .before .before .before .before .wide2 .ensures, c .before .before .before .before .before .before .wide3 .ensures, c .before .before .before .before .wide4 .ensures, c .before .before .wide5 .ensures, c .count-of .ensures)
+returns c =
+    let at-wide4 = c .before .before .before .before in
+    let at-wide3 = at-wide4 .before .before in
+    let at-wide2 = at-wide3 .before .before in
+    let at-wide = at-wide2 .before .before in
+    rw (
+      at-wide .wide .ensures,
+      at-wide2 .wide2 .ensures,
+      at-wide3 .wide3 .ensures,
+      at-wide4 .wide4 .ensures,
+      c .before .before .wide5 .ensures,
+      c .count-of .ensures,
+    )
 
 pub frame-at-spec : {M : Type 1} → statement M
 frame-at-spec =

@@ -34,7 +34,14 @@ byte-of-requires-5 : tie.Need-byte-of-requires-5
 byte-of-requires-5 c κs = search needs
 
 returns : tie.Need-returns
-returns c = rw (c .before .before .before .before .before .byte-of .ensures, c .before .before .before .before .low-byte .ensures, c .before .before .before .byte-of2 .ensures, c .before .before .byte-of3 .ensures, c .before .byte-of4 .ensures, c .byte-of5 .ensures)
+returns c = rw (
+  c .before .before .before .before .before .byte-of .ensures,
+  c .before .before .before .before .low-byte .ensures,
+  c .before .before .before .byte-of2 .ensures,
+  c .before .before .byte-of3 .ensures,
+  c .before .byte-of4 .ensures,
+  c .byte-of5 .ensures,
+)
 
 pub frame-bytes-spec : {M : Type 1} → statement M
 frame-bytes-spec =

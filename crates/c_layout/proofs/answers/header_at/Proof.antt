@@ -42,7 +42,19 @@ wide-requires-6 c κs = search needs
 
 returns : tie.Need-returns
 unfolding headerAt
-returns c = rw (c .before .before .before .before .before .before .before .before .before .before .wide .ensures, c .before .before .before .before .before .before .before .before .wide2 .ensures, c .before .before .before .before .before .before .wide3 .ensures, c .before .before .before .before .wide4 .ensures, c .before .before .wide5 .ensures, c .wide6 .ensures)
+returns c =
+    let at-wide4 = c .before .before .before .before in
+    let at-wide3 = at-wide4 .before .before in
+    let at-wide2 = at-wide3 .before .before in
+    let at-wide = at-wide2 .before .before in
+    rw (
+      at-wide .wide .ensures,
+      at-wide2 .wide2 .ensures,
+      at-wide3 .wide3 .ensures,
+      at-wide4 .wide4 .ensures,
+      c .before .before .wide5 .ensures,
+      c .wide6 .ensures,
+    )
 
 pub header-at-spec : {M : Type 1} → statement M
 header-at-spec =

@@ -22,7 +22,14 @@ byte-of-requires-6 : tie.Need-byte-of-requires-6
 byte-of-requires-6 c κs = search needs
 
 returns : tie.Need-returns
-returns c = rw (c .before .before .before .before .before .byte-of .ensures, c .before .before .before .before .byte-of2 .ensures, c .before .before .before .byte-of3 .ensures, c .before .before .byte-of4 .ensures, c .before .byte-of5 .ensures, c .byte-of6 .ensures)
+returns c = rw (
+  c .before .before .before .before .before .byte-of .ensures,
+  c .before .before .before .before .byte-of2 .ensures,
+  c .before .before .before .byte-of3 .ensures,
+  c .before .before .byte-of4 .ensures,
+  c .before .byte-of5 .ensures,
+  c .byte-of6 .ensures,
+)
 
 pub header-bytes-spec : {M : Type 1} → statement M
 header-bytes-spec =

@@ -58,8 +58,10 @@ loop-less c = search needs
 
 loop-again : tie.Need-loop-again Inv-loop μ-loop
 loop-again c =
-    let a = c .before .before .before .before .before .before .before .before .before .before .args in
-    let l = c .before .before .before .before .before .before .before .before .loop in
+    let at-loop = c .before .before .before .before .before .before .before .before in
+    let entry = at-loop .before .before in
+    let a = entry .args in
+    let l = at-loop .loop in
     let put = c .before .before .put-envelope in
     let next = put-next (a .out .now) 22 _ (140 * l .e) _ 140 (l .inv .5) (put .ensures) (omega arith) in
     let long = put-length (a .out .now) 22 _ _ next (omega arith) in

@@ -27,7 +27,12 @@ row-at-requires-4 c κs = search needs
 
 returns : tie.Need-returns
 unfolding rowsAt
-returns c = rw (c .before .before .before .row-at .ensures, c .before .before .row-at2 .ensures, c .before .row-at3 .ensures, c .row-at4 .ensures)
+returns c = rw (
+  c .before .before .before .row-at .ensures,
+  c .before .before .row-at2 .ensures,
+  c .before .row-at3 .ensures,
+  c .row-at4 .ensures,
+)
 
 pub rows-at-spec : {M : Type 1} → statement M
 rows-at-spec =

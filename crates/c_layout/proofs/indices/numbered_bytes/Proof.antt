@@ -55,7 +55,8 @@ loop-again c =
     let long : length (s .args .t2) ≡ 34 = search needs in
     let long′ : length ys ≡ 34 = rw length-map long in
     let v : c .index-byte .result ≡ getD ys (l .i) 0 =
-    rw (List·getD-map (ofZ w8) (s .args .t2) (l .i) (pos 0)) (rw (toZ-ofZ w8 _ (record { sfits = c .before .index-byte-arg .given })) at (c .index-byte .ensures)) in
+    rw (List·getD-map (ofZ w8) (s .args .t2) (l .i) (pos 0))
+    (rw (toZ-ofZ w8 _ (record { sfits = c .before .index-byte-arg .given })) at (c .index-byte .ensures)) in
     let more = paste-suc (replicate 35 (c .before .before .before .before .byte-of .result)) 1 ys (l .i) 0 (omega arith) (omega arith) in
     (omega arith, simp length-set (l .inv .1), rw (v, l .inv .2) (more ∙ rw add-one))
 
@@ -66,7 +67,8 @@ returns c =
     let l = c .before .loop in
     let long : length (s .args .t2) ≡ 34 = search needs in
     let e : l .i ≡ 34 = omega arith in
-    l .inv .2 ∙ rw (e) (filled (c .before .before .byte-of .result) (map (ofZ w8) (s .args .t2)) (rw length-map long) ∙ rw (c .before .before .byte-of .ensures))
+    l .inv .2 ∙ rw (e) (filled (c .before .before .byte-of .result) (map (ofZ w8) (s .args .t2)) (rw length-map long)
+    ∙ rw (c .before .before .byte-of .ensures))
 
 pub numbered-bytes-spec : {M : Type 1} → statement M
 numbered-bytes-spec =

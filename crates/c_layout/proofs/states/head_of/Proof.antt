@@ -24,7 +24,14 @@ flag-byte-requires-4 c κs = search needs
 
 returns : tie.Need-returns
 unfolding stateHead
-returns c = rw (c .before .before .before .before .before .flag-byte .ensures, c .before .before .before .before .flag-byte2 .ensures, c .before .before .before .flag-byte3 .ensures, c .before .before .byte-of .ensures, c .before .byte-of2 .ensures, c .flag-byte4 .ensures)
+returns c = rw (
+  c .before .before .before .before .before .flag-byte .ensures,
+  c .before .before .before .before .flag-byte2 .ensures,
+  c .before .before .before .flag-byte3 .ensures,
+  c .before .before .byte-of .ensures,
+  c .before .byte-of2 .ensures,
+  c .flag-byte4 .ensures,
+)
 
 pub head-of-spec : {M : Type 1} → statement M
 head-of-spec =

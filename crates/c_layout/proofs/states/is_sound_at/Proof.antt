@@ -31,7 +31,8 @@ are-flags-requires c κs = search needs
 returns-2 : tie.Need-returns-2
 unfolding soundBytes
 returns-2 c =
-    let s = c .before .before .before .before .before .before .before .before .args .s .now in
+    let entry = c .before .before .before .before .before .before .before .before in
+    let s = entry .args .s .now in
     rw (le-leb 146 (length s) (omega arith), sym (c .before .are-flags .ensures) ∙ not-true _ (c .if2 .taken))
 
 state-at-requires : tie.Need-state-at-requires
@@ -43,9 +44,15 @@ is-sound-requires c κs = search needs
 returns-3 : tie.Need-returns-3
 unfolding soundBytes
 returns-3 c =
-    let s = c .before .before .before .before .before .before .before .before .before .before .args .s .now in
+    let entry = c .before .before .before .before .before .before .before .before .before .before in
+    let s = entry .args .s .now in
     let flags = c .before .before .before in
-    c .is-sound .ensures ∙ rw (le-leb 146 (length s) (omega arith), sym (flags .are-flags .ensures) ∙ not-false _ (c .before .before .if2 .left), c .before .state-at .ensures)
+    c .is-sound .ensures ∙ rw (
+      le-leb 146 (length s) (omega arith),
+      sym (flags .are-flags .ensures)
+          ∙ not-false _ (c .before .before .if2 .left),
+      c .before .state-at .ensures,
+    )
 
 pub is-sound-at-spec : {M : Type 1} → statement M
 is-sound-at-spec =

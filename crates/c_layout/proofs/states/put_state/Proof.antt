@@ -46,7 +46,8 @@ returns c =
     let s = entry .args .out .now in
     let st = entry .args .state in
     let long : 146 ≤ length s = entry .pre in
-    let at-6 : Put s 0 (stateHead st) 6 (head .put .last .0) = (head .put .ensures ∙ rw (head .before .before .before .head-of .ensures), refl) in
+    let at-6 : Put s 0 (stateHead st) 6 (head .put .last .0) =
+    (head .put .ensures ∙ rw (head .before .before .before .head-of .ensures), refl) in
     let at-41 = put-next s 0 _ 6 _ 35 at-6 (iid .put-numbered .ensures) (omega arith) in
     let at-76 = put-next s 0 _ 41 _ 35 at-41 (icc .put-numbered2 .ensures) (omega arith) in
     let at-111 = put-next s 0 _ 76 _ 35 at-76 (ipd .put-numbered3 .ensures) (omega arith) in

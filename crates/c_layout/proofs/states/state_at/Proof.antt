@@ -42,7 +42,19 @@ shared-slice-read-t8-2 c = search needs
 
 returns : tie.Need-returns
 unfolding stateAt
-returns c = rw (c .before .before .before .before .before .before .before .wide .ensures, c .before .before .before .before .before .wide2 .ensures, c .before .before .before .before .record-at .ensures, c .before .before .before .record-at2 .ensures, c .before .before .record-at3 .ensures, c .before .record-at4 .ensures)
+returns c =
+    let at-record-at2 = c .before .before .before in
+    let at-record-at = at-record-at2 .before in
+    let at-wide2 = at-record-at .before in
+    let at-wide = at-wide2 .before .before in
+    rw (
+      at-wide .wide .ensures,
+      at-wide2 .wide2 .ensures,
+      at-record-at .record-at .ensures,
+      at-record-at2 .record-at2 .ensures,
+      c .before .before .record-at3 .ensures,
+      c .before .record-at4 .ensures,
+    )
 
 pub state-at-spec : {M : Type 1} → statement M
 state-at-spec =

@@ -1,4 +1,5 @@
--- No part where none is announced; 10 where fewer bits are left than announced; else the part is read up to its own end, and what is 10 there is 33.
+-- No part where none is announced; 10 where fewer bits are left than announced; else the part is read up to its own end, and what is 10
+-- there is 33.
 use Prim.Native.Nat.{ℕ, _<_, _≤_, _+_, _*_, _-_}
 use mathlib.Core.Path.{_≡_, _∙_, ap}
 use native.Mathlib.Omega.{arith}
@@ -54,7 +55,8 @@ returns-3 c =
     let a = r .before .before .before .before .before .args in
     let l : a .at + 8 * a .size ≤ a .end = there _ _ _ _ (r .before .if1 .left) (r .remaining .ensures) (p .before .if2 .left) in
     ap (λ (x : Ended). endedAnswer x (p .read-part .result .part)) (c .before .inside .ensures)
-    ∙ announced-part _ _ _ _ _ _ _ _ (r .before .if1 .left) l (p .read-part .result .ended) (p .read-part .result .part) (p .read-part .ensures)
+    ∙ announced-part _ _ _ _ _ _ _ _ (r .before .if1 .left) l (p .read-part .result .ended) (p .read-part .result .part)
+    (p .read-part .ensures)
 
 pub read-announced-spec : {M : Type 1} → statement M
 read-announced-spec =

@@ -11,13 +11,16 @@ use Rattle.stereo.proofs.extensions.read_extension_sent.Statement.{stat
 use Rattle.stereo.proofs.extensions.read_extension_sent.Tie as tie
 
 -- the size is at most 270
-size-le : (c : tie.After-known-told2) → c .before .before .before .before .before .size-field .given .0 .0 + c .before .esc-field .given .0 .0 ≤ 270
+size-le : (c : tie.After-known-told2)
+    → c .before .before .before .before .before .size-field .given .0 .0 + c .before .esc-field .given .0 .0 ≤ 270
 size-le c =
     let got-esc = c .before in
     let at-esc = got-esc .before .before in
     let got-size = at-esc .before .before in
-    let a : got-size .size-field .given .0 .0 < 2 ^ 4 = field-below 4 _ _ _ _ _ (answered (got-size .before .before .read-field .ensures) (got-size .size-field .given .1)) in
-    let b : got-esc .esc-field .given .0 .0 < 256 = esc-below _ _ _ _ _ _ (answered (at-esc .read-esc .ensures) (got-esc .esc-field .given .1)) in
+    let a : got-size .size-field .given .0 .0 < 2 ^ 4 =
+    field-below 4 _ _ _ _ _ (answered (got-size .before .before .read-field .ensures) (got-size .size-field .given .1)) in
+    let b : got-esc .esc-field .given .0 .0 < 256 =
+    esc-below _ _ _ _ _ _ (answered (at-esc .read-esc .ensures) (got-esc .esc-field .given .1)) in
     omega arith
 
 read-field-requires : tie.Need-read-field-requires
@@ -36,7 +39,8 @@ returns : tie.Need-returns
 unfolding extensionSent
 returns c =
     let at-size = c .before .before .before in
-    passed _ (c .refused-extension .ensures) (c .before .enum-told .given .1) ∙ rw (answered (at-size .read-field .ensures) (c .before .enum-told .given .1))
+    passed _ (c .refused-extension .ensures) (c .before .enum-told .given .1)
+    ∙ rw (answered (at-size .read-field .ensures) (c .before .enum-told .given .1))
 
 read-esc-requires : tie.Need-read-esc-requires
 read-esc-requires c κs = search needs
@@ -56,7 +60,10 @@ returns-2 c =
     let at-esc = c .before .before .before in
     let got-size = at-esc .before .before in
     passed _ (c .refused-extension2 .ensures) (c .before .enum-told2 .given .1)
-    ∙ rw (answered (got-size .before .before .read-field .ensures) (got-size .size-field .given .1), answered (at-esc .read-esc .ensures) (c .before .enum-told2 .given .1))
+    ∙ rw (
+      answered (got-size .before .before .read-field .ensures) (got-size .size-field .given .1),
+      answered (at-esc .read-esc .ensures) (c .before .enum-told2 .given .1),
+    )
 
 add-total : tie.Need-add-total
 add-total c = let l = size-le c in record { fits = omega arith }
@@ -66,7 +73,8 @@ cast-total c = search needs
 
 read-announced-requires : tie.Need-read-announced-requires
 read-announced-requires c κs =
-    let p = c .before .before .before .before .before .before .before .before .before .before .before .pre in
+    let entry = c .before .before .before .before .before .before .before .before .before .before .before in
+    let p = entry .pre in
     (p .0, p .1, p .2, size-le c)
 
 returns-3 : tie.Need-returns-3
@@ -75,7 +83,8 @@ returns-3 c =
     let got-esc = c .before .before .before in
     let at-esc = got-esc .before .before in
     let got-size = at-esc .before .before in
-    sent-rest _ _ _ _ _ _ _ _ _ _ _ (answered (got-size .before .before .read-field .ensures) (got-size .size-field .given .1)) (answered (at-esc .read-esc .ensures) (got-esc .esc-field .given .1))
+    sent-rest _ _ _ _ _ _ _ _ _ _ _ (answered (got-size .before .before .read-field .ensures) (got-size .size-field .given .1))
+    (answered (at-esc .read-esc .ensures) (got-esc .esc-field .given .1))
     (r .result .ended) (r .result .part) (r .ensures)
 
 pub read-extension-sent-spec : {M : Type 1} → statement M

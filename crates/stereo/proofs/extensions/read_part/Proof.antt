@@ -24,7 +24,8 @@ returns : tie.Need-returns
 returns c =
     let t = c .before .enum-told .given .1 in
     let r = c .before .before .before .before in
-    ap (λ (x : Ended). endedAnswer x (c .no-part .result)) t ∙ part-refused _ _ _ _ _ _ _ _ _ (ended-is (r .read-v0 .result .body) (r .read-v0 .ensures) t)
+    ap (λ (x : Ended). endedAnswer x (c .no-part .result)) t
+    ∙ part-refused _ _ _ _ _ _ _ _ _ (ended-is (r .read-v0 .result .body) (r .read-v0 .ensures) t)
 
 remaining-requires : tie.Need-remaining-requires
 remaining-requires c κs = search needs
@@ -41,7 +42,8 @@ returns-2 c =
     let e = m .before .before in
     let r = e .before .before .before in
     rw (c .before .why-another .ensures)
-    (part-another _ _ _ _ _ _ _ _ _ (ended-is (r .read-v0 .result .body) (r .read-v0 .ensures) (e .ended .given .1)) (rw (m .remaining .ensures) at (c .before .before .if1 .taken)))
+    (part-another _ _ _ _ _ _ _ _ _ (ended-is (r .read-v0 .result .body) (r .read-v0 .ensures) (e .ended .given .1))
+    (rw (m .remaining .ensures) at (c .before .before .if1 .taken)))
 
 bits-at-requires : tie.Need-bits-at-requires
 bits-at-requires c κs = search needs
@@ -55,7 +57,8 @@ returns-3 c =
     let e = m .before .before in
     let r = e .before .before .before in
     rw (c .bits-at .ensures, m .remaining .ensures)
-    (part-fill _ _ _ _ _ _ _ _ _ (ended-is (r .read-v0 .result .body) (r .read-v0 .ensures) (e .ended .given .1)) (rw (m .remaining .ensures) at (c .before .if1 .left)))
+    (part-fill _ _ _ _ _ _ _ _ _ (ended-is (r .read-v0 .result .body) (r .read-v0 .ensures) (e .ended .given .1))
+    (rw (m .remaining .ensures) at (c .before .if1 .left)))
 
 pub read-part-spec : {M : Type 1} → statement M
 read-part-spec =

@@ -44,7 +44,11 @@ returns-3 c =
     let t = c .enum-told2 .given .1 in
     let at-flag = c .before .before in
     let got-id = at-flag .before .before .before in
-    ap fieldAnswer t ∙ rw (answered (got-id .before .before .read-field .ensures) (got-id .id-field .given .1), eq-eqb _ _ (at-flag .before .if1 .left), answered (at-flag .read-field2 .ensures) t)
+    ap fieldAnswer t ∙ rw (
+      answered (got-id .before .before .read-field .ensures) (got-id .id-field .given .1),
+      eq-eqb _ _ (at-flag .before .if1 .left),
+      answered (at-flag .read-field2 .ensures) t,
+    )
 
 has-mode-requires : tie.Need-has-mode-requires
 has-mode-requires c κs = search needs
@@ -55,7 +59,12 @@ returns-4 c =
     let got-flag = c .before .before .before in
     let at-flag = got-flag .before .before in
     let got-id = at-flag .before .before .before in
-    rw (answered (got-id .before .before .read-field .ensures) (got-id .id-field .given .1), eq-eqb _ _ (at-flag .before .if1 .left), answered (at-flag .read-field2 .ensures) (got-flag .flag-field .given .1), sym (c .before .has-mode .ensures) ∙ c .if2 .taken)
+    rw (
+      answered (got-id .before .before .read-field .ensures) (got-id .id-field .given .1),
+      eq-eqb _ _ (at-flag .before .if1 .left),
+      answered (at-flag .read-field2 .ensures) (got-flag .flag-field .given .1),
+      sym (c .before .has-mode .ensures) ∙ c .if2 .taken,
+    )
 
 returns-5 : tie.Need-returns-5
 unfolding phaseFlag
@@ -63,7 +72,12 @@ returns-5 c =
     let got-flag = c .before .before .before in
     let at-flag = got-flag .before .before in
     let got-id = at-flag .before .before .before in
-    rw (answered (got-id .before .before .read-field .ensures) (got-id .id-field .given .1), eq-eqb _ _ (at-flag .before .if1 .left), answered (at-flag .read-field2 .ensures) (got-flag .flag-field .given .1), sym (c .before .has-mode .ensures) ∙ c .if2 .left)
+    rw (
+      answered (got-id .before .before .read-field .ensures) (got-id .id-field .given .1),
+      eq-eqb _ _ (at-flag .before .if1 .left),
+      answered (at-flag .read-field2 .ensures) (got-flag .flag-field .given .1),
+      sym (c .before .has-mode .ensures) ∙ c .if2 .left,
+    )
 
 pub read-phase-flag-spec : {M : Type 1} → statement M
 read-phase-flag-spec =

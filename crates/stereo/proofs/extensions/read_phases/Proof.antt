@@ -25,15 +25,19 @@ no-phases-requires c κs = search needs
 
 returns : tie.Need-returns
 returns c =
+    let at-ended = c .before .before .before .before in
+    let at-before = at-ended .before .before in
     let r = c .before .read-row2 in
-    let p = c .before .before .before .before .before .before .before in
-    phases-rest _ _ _ _ _ _ _ _ (ended-is (p .read-row .result .row) (p .read-row .ensures) (c .before .before .before .before .ended .given .1)) (r .result .ended) (r .result .row) (r .ensures)
+    let p = at-before .before in
+    phases-rest _ _ _ _ _ _ _ _ (ended-is (p .read-row .result .row) (p .read-row .ensures) (at-ended .ended .given .1))
+    (r .result .ended) (r .result .row) (r .ensures)
 
 returns-2 : tie.Need-returns-2
 returns-2 c =
     let p = c .before .before .before .before in
     let t = c .before .enum-told .given .1 in
-    ap (λ (x : Ended). endedAnswer x (c .no-phases .result)) t ∙ phases-refused _ _ _ _ _ _ _ _ (ended-is (p .read-row .result .row) (p .read-row .ensures) t)
+    ap (λ (x : Ended). endedAnswer x (c .no-phases .result)) t
+    ∙ phases-refused _ _ _ _ _ _ _ _ (ended-is (p .read-row .result .row) (p .read-row .ensures) t)
 
 pub read-phases-spec : {M : Type 1} → statement M
 read-phases-spec =

@@ -31,14 +31,16 @@ after-more : (h : PhaseRecords) (mode : ℕ) (ps : List Phases) (p : Phases)
     → after h mode (ps ++ p ∷ []) ≡ record { ipd = recordOf mode (p .ipd .indices); opd = recordOf mode (p .opd .indices) }
 after-more h mode ps p = rw (after-ipds (h .ipd) mode ps p, after-opds (h .opd) mode ps p)
 
-record Inv (f : List Phases → Reader Phases) (mode : ℕ) (h : PhaseRecords) (s : List ℕ) (at end n : ℕ) (phases : List Phases) (last : PhaseRecords) (place k : ℕ) : Type 0 where
+record Inv (f : List Phases → Reader Phases) (mode : ℕ) (h : PhaseRecords) (s : List ℕ) (at end n : ℕ) (phases : List Phases)
+    (last : PhaseRecords) (place k : ℕ) : Type 0 where
   within : k ≤ n
   filled : Filled 4 noPhases k phases
   left : last ≡ after h mode (take k phases)
   so-far : counted 0 n (more f) [] s at end ≡ counted k (n - k) (more f) (take k phases) s place end
 
 abbrev Inv-loop : tie.InvT-loop
-Inv-loop s at end mode n codes lens phases₀ last₀ place₀ k₀ phases last place k = Inv (next mode last₀) mode last₀ s at end n phases last place k
+Inv-loop s at end mode n codes lens phases₀ last₀ place₀ k₀ phases last place k =
+    Inv (next mode last₀) mode last₀ s at end n phases last place k
 
 abbrev μ-loop : tie.MeasureT-loop
 μ-loop s at end mode n codes lens phases₀ last₀ place₀ k₀ phases last place k = n - k
@@ -57,7 +59,9 @@ loop-holds c =
     })
 
 read-phases-requires : tie.Need-read-phases-requires Inv-loop μ-loop
-read-phases-requires c κs = let p = c .before .before .before .before .before .before .pre in (p .0, p .1)
+read-phases-requires c κs =
+    let entry = c .before .before .before .before .before .before in
+    let p = entry .pre in (p .0, p .1)
 
 left-by-requires : tie.Need-left-by-requires Inv-loop μ-loop
 left-by-requires c κs = search needs
@@ -75,7 +79,8 @@ enum-told : tie.Need-enum-told Inv-loop μ-loop
 enum-told c = search needs
 
 -- the code reads what the definition reads
-step-is : (c : tie.After-read-phases Inv-loop μ-loop) (e : Ended) → c .read-phases .result .ended ≡ e → let a = c .before .before .before .before .before .before .before .args in
+step-is : (c : tie.After-read-phases Inv-loop μ-loop) (e : Ended) → c .read-phases .result .ended ≡ e
+    → let a = c .before .before .before .before .before .before .before .args in
     let l = c .before .before .loop in
     next (a .mode) (a .records) (take (l .k) (l .phases)) (a .s .now) (l .place) (a .end) ≡ endedAnswer e (c .read-phases .result .phases)
 step-is c e q =
@@ -92,9 +97,11 @@ returns c =
     let f = next (a .mode) (a .records) in
     let told = c .enum-told .given .1 in
     let q = step-is p _ told in
-    let e = l .inv .so-far ∙ counted-stop (more f) (l .k) (a .n) (take (l .k) (l .phases)) (a .s .now) (l .place) (a .end) _ _ (p .before .loop-test .taken)
+    let e = l .inv .so-far ∙ counted-stop (more f) (l .k) (a .n) (take (l .k) (l .phases)) (a .s .now) (l .place) (a .end) _ _
+    (p .before .loop-test .taken)
     (more-refused f (l .k) (take (l .k) (l .phases)) (a .s .now) (l .place) (a .end) _ _ q) in
-    ap (λ (x : Ended). endedAnswer x (l .phases)) told ∙ all-refused (a .mode) (a .records .ipd) (a .records .opd) (a .s .now) (a .at) (a .end) (a .n) _ _ e
+    ap (λ (x : Ended). endedAnswer x (l .phases)) told
+    ∙ all-refused (a .mode) (a .records .ipd) (a .records .opd) (a .s .now) (a .at) (a .end) (a .n) _ _ e
 
 add-k : tie.Need-add-k Inv-loop μ-loop
 add-k c = search needs
@@ -115,17 +122,21 @@ loop-again c =
     record {
       within = omega arith;
       filled = filled-set 4 noPhases (l .k) (l .phases) x (l .inv .filled);
-      left = c .left-by .ensures ∙ sym (ap (after (a .records) (a .mode)) t ∙ after-more (a .records) (a .mode) (take (l .k) (l .phases)) x);
-      so-far = l .inv .so-far ∙ counted-more (more f) (l .k) (a .n) (take (l .k) (l .phases)) _ (a .s .now) (l .place) (a .end) _ (p .before .loop-test .taken)
+      left = c .left-by .ensures
+          ∙ sym (ap (after (a .records) (a .mode)) t ∙ after-more (a .records) (a .mode) (take (l .k) (l .phases)) x);
+      so-far = l .inv .so-far ∙ counted-more (more f) (l .k) (a .n) (take (l .k) (l .phases)) _ (a .s .now) (l .place) (a .end) _
+          (p .before .loop-test .taken)
           (more-got f (l .k) (take (l .k) (l .phases)) x (a .s .now) (l .place) (a .end) _ q ∙ rw t);
     }
 
 returns-2 : tie.Need-returns-2 Inv-loop μ-loop
 returns-2 c =
+    let entry = c .before .before .before .before .before .before in
     let l = c .before .loop in
-    let a = c .before .before .before .before .before .before .args in
+    let a = entry .args in
     let f = next (a .mode) (a .records) in
-    let e = l .inv .so-far ∙ counted-done (more f) (l .k) (a .n) (take (l .k) (l .phases)) (a .s .now) (l .place) (a .end) (c .loop-test .left) in
+    let e = l .inv .so-far ∙ counted-done (more f) (l .k) (a .n) (take (l .k) (l .phases)) (a .s .now) (l .place) (a .end)
+    (c .loop-test .left) in
     ap (λ (rs : List Phases). got rs (l .place)) (sym (filled-padded 4 noPhases (l .k) (l .phases) (omega arith) (l .inv .filled)))
     ∙ all-got (a .mode) (a .records .ipd) (a .records .opd) (a .s .now) (a .at) (a .end) (a .n) _ _ e
 

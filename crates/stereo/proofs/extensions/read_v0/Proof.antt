@@ -29,7 +29,8 @@ returns : tie.Need-returns
 returns c =
     let t = c .before .before .enum-told .given .1 in
     let f = c .before .before .before .before in
-    passed _ (c .refused-body .ensures ∙ c .before .passed-on .ensures) t ∙ v0-refused _ _ _ _ _ _ _ _ _ (answered (f .read-phase-flag .ensures) t)
+    passed _ (c .refused-body .ensures ∙ c .before .passed-on .ensures) t
+    ∙ v0-refused _ _ _ _ _ _ _ _ _ (answered (f .read-phase-flag .ensures) t)
 
 read-all-phases-requires : tie.Need-read-all-phases-requires
 read-all-phases-requires c κs = search needs
@@ -49,7 +50,8 @@ returns-2 c =
     let r = c .before .before .before .before in
     let k = r .before .before in
     ap (λ (x : Ended). endedAnswer x (c .refused-body2 .result .body)) (c .refused-body2 .ensures ∙ t)
-    ∙ v0-cut _ _ _ _ _ _ _ _ _ _ _ (answered (k .before .before .read-phase-flag .ensures) (k .flag-field .given .1)) (ended-is (r .read-all-phases .result .phases) (r .read-all-phases .ensures) t)
+    ∙ v0-cut _ _ _ _ _ _ _ _ _ _ _ (answered (k .before .before .read-phase-flag .ensures) (k .flag-field .given .1))
+    (ended-is (r .read-all-phases .result .phases) (r .read-all-phases .ensures) t)
 
 read-unset-bit-requires : tie.Need-read-unset-bit-requires
 read-unset-bit-requires c κs = search needs
@@ -63,8 +65,10 @@ returns-3 c =
     let e = c .before .before .before in
     let r = e .before .before .before in
     let k = r .before .before in
-    ap (λ (x : Ended). endedAnswer {A = Body} x (record { phase = k .flag-field .given .0 .0; phases = r .read-all-phases .result .phases })) (c .passed-on2 .ensures)
-    ∙ v0-rest _ _ _ _ _ _ _ _ _ _ _ (answered (k .before .before .read-phase-flag .ensures) (k .flag-field .given .1)) (ended-is (r .read-all-phases .result .phases) (r .read-all-phases .ensures) (e .phases-ended .given .1))
+    ap (λ (x : Ended). endedAnswer {A = Body} x
+    (record { phase = k .flag-field .given .0 .0; phases = r .read-all-phases .result .phases })) (c .passed-on2 .ensures)
+    ∙ v0-rest _ _ _ _ _ _ _ _ _ _ _ (answered (k .before .before .read-phase-flag .ensures) (k .flag-field .given .1))
+    (ended-is (r .read-all-phases .result .phases) (r .read-all-phases .ensures) (e .phases-ended .given .1))
     (z .result) (z .ensures)
 
 pub read-v0-spec : {M : Type 1} → statement M

@@ -65,7 +65,8 @@ returns c =
     let l = p .before .before .loop in
     let a = p .before .before .before .before .before .args in
     let q = answered (p .read-field .ensures) (c .before .number .given .1) in
-    let e = l .inv .so-far ∙ counted-stop (more next) (l .k) (a .n) (take (l .k) (l .borders)) (a .s .now) (l .place) (a .end) _ _ (p .before .loop-test .taken)
+    let e = l .inv .so-far ∙ counted-stop (more next) (l .k) (a .n) (take (l .k) (l .borders)) (a .s .now) (l .place) (a .end) _ _
+    (p .before .loop-test .taken)
     (more-refused next (l .k) (take (l .k) (l .borders)) (a .s .now) (l .place) (a .end) _ _ q) in
     borders-refused (a .n) (a .s .now) (a .at) (a .end) _ _ e
 
@@ -87,7 +88,8 @@ loop-again c =
     record {
       within = omega arith;
       filled = filled-set 4 0 (l .k) (l .borders) x (l .inv .filled);
-      so-far = l .inv .so-far ∙ counted-more (more next) (l .k) (a .n) (take (l .k) (l .borders)) _ (a .s .now) (l .place) (a .end) _ (p .before .loop-test .taken)
+      so-far = l .inv .so-far ∙ counted-more (more next) (l .k) (a .n) (take (l .k) (l .borders)) _ (a .s .now) (l .place) (a .end) _
+          (p .before .loop-test .taken)
           (more-got next (l .k) (take (l .k) (l .borders)) x (a .s .now) (l .place) (a .end) _ q ∙ rw t);
     }
 
@@ -95,7 +97,8 @@ returns-2 : tie.Need-returns-2 Inv-loop μ-loop
 returns-2 c =
     let l = c .before .loop in
     let a = c .before .before .before .before .args in
-    let e = l .inv .so-far ∙ counted-done (more next) (l .k) (a .n) (take (l .k) (l .borders)) (a .s .now) (l .place) (a .end) (c .loop-test .left) in
+    let e = l .inv .so-far ∙ counted-done (more next) (l .k) (a .n) (take (l .k) (l .borders)) (a .s .now) (l .place) (a .end)
+    (c .loop-test .left) in
     ap (λ (bs : List ℕ). got bs (l .place)) (sym (filled-padded 4 0 (l .k) (l .borders) (omega arith) (l .inv .filled)))
     ∙ borders-got (a .n) (a .s .now) (a .at) (a .end) _ _ e
 

@@ -25,8 +25,11 @@ refused-frame-requires c κs = search needs
 returns : tie.Need-returns
 unfolding frame
 returns c =
-    let at-class = c .before .before .before in
-    (passed _ (c .refused-frame .ensures .0) (c .before .enum-told .given .1) ∙ rw (answered (at-class .read-field .ensures) (c .before .enum-told .given .1)), c .refused-frame .ensures .1)
+    let at-class = c .before .before .before in (
+      passed _ (c .refused-frame .ensures .0) (c .before .enum-told .given .1)
+          ∙ rw (answered (at-class .read-field .ensures) (c .before .enum-told .given .1)),
+      c .refused-frame .ensures .1,
+    )
 
 read-field-requires-2 : tie.Need-read-field-requires-2
 read-field-requires-2 c κs = search needs
@@ -46,14 +49,18 @@ returns-2 c =
     let at-index = c .before .before .before in
     let got-class = at-index .before .before in (
       passed _ (c .refused-frame2 .ensures .0) (c .before .enum-told2 .given .1)
-          ∙ rw (answered (got-class .before .before .read-field .ensures) (got-class .class-field .given .1), answered (at-index .read-field2 .ensures) (c .before .enum-told2 .given .1)),
+          ∙ rw (
+            answered (got-class .before .before .read-field .ensures) (got-class .class-field .given .1),
+            answered (at-index .read-field2 .ensures) (c .before .enum-told2 .given .1),
+          ),
       c .refused-frame2 .ensures .1,
     )
 
 envelope-count-requires : tie.Need-envelope-count-requires
 envelope-count-requires c κs =
     let got-index = c .before in
-    let h : got-index .index-field .given .0 .0 < 2 ^ 2 = field-below 2 _ _ _ _ _ (answered (got-index .before .before .read-field2 .ensures) (got-index .index-field .given .1)) in
+    let h : got-index .index-field .given .0 .0 < 2 ^ 2 =
+    field-below 2 _ _ _ _ _ (answered (got-index .before .before .read-field2 .ensures) (got-index .index-field .given .1)) in
     omega arith
 
 read-borders-requires : tie.Need-read-borders-requires
@@ -65,7 +72,8 @@ returns-3 c =
     let n = r .before in
     let got-index = n .before .before in
     let got-class = got-index .before .before .before .before in (
-      frame-rest _ _ _ _ _ _ _ _ (answered (got-class .before .before .read-field .ensures) (got-class .class-field .given .1)) (answered (got-index .before .before .read-field2 .ensures) (got-index .index-field .given .1))
+      frame-rest _ _ _ _ _ _ _ _ (answered (got-class .before .before .read-field .ensures) (got-class .class-field .given .1))
+          (answered (got-index .before .before .read-field2 .ensures) (got-index .index-field .given .1))
           (n .envelope-count .ensures .0) (r .read-borders .result .ended) (r .read-borders .result .borders) (r .read-borders .ensures),
       n .envelope-count .ensures .1,
     )

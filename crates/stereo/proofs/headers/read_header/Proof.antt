@@ -37,7 +37,8 @@ returns-2 : tie.Need-returns-2
 unfolding header
 returns-2 c =
     let k = c .before .before .before in
-    c .read-header-fields .ensures ∙ rw (answered (k .before .before .read-field .ensures) (k .f .given .1), eq-eqb _ _ (c .before .if1 .taken))
+    c .read-header-fields .ensures
+    ∙ rw (answered (k .before .before .read-field .ensures) (k .f .given .1), eq-eqb _ _ (c .before .if1 .taken))
 
 no-header-requires : tie.Need-no-header-requires
 no-header-requires c κs = search needs

@@ -17,7 +17,8 @@ enum-known-mode c = search needs
 returns-2 : tie.Need-returns-2
 returns-2 c =
     let m = c .before .before in
-    mode-got _ _ _ _ _ _ (m .before .before .before .if1 .left) (answered (m .before .before .read-field .ensures) (m .mode .given .1)) (c .if2 .taken)
+    mode-got _ _ _ _ _ _ (m .before .before .before .if1 .left) (answered (m .before .before .read-field .ensures) (m .mode .given .1))
+    (c .if2 .taken)
 
 enum-known-number : tie.Need-enum-known-number
 enum-known-number c = search needs
@@ -25,12 +26,14 @@ enum-known-number c = search needs
 returns-3 : tie.Need-returns-3
 returns-3 c =
     let m = c .before .before in
-    mode-reserved _ _ _ _ _ _ (m .before .before .before .if1 .left) (answered (m .before .before .read-field .ensures) (m .mode .given .1)) (c .if2 .left)
+    mode-reserved _ _ _ _ _ _ (m .before .before .before .if1 .left)
+    (answered (m .before .before .read-field .ensures) (m .mode .given .1)) (c .if2 .left)
 
 returns-4 : tie.Need-returns-4
 returns-4 c =
     let m = c .before in
-    mode-refused _ _ _ _ _ _ (m .before .before .before .if1 .left) (answered (m .before .before .read-field .ensures) (m .number .given .1))
+    mode-refused _ _ _ _ _ _ (m .before .before .before .if1 .left)
+    (answered (m .before .before .read-field .ensures) (m .number .given .1))
 
 pub read-mode-spec : {M : Type 1} → statement M
 read-mode-spec =

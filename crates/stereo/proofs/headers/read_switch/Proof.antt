@@ -55,7 +55,10 @@ returns-3 c =
     let at-mode = got-mode .before .before in
     let got-flag = at-mode .before .before in
     let at-flag = got-flag .before .before in
-    rw (answered (at-flag .read-field .ensures) (got-flag .flag .given .1), answered (at-mode .read-mode .ensures) (got-mode .sent .given .1))
+    rw (
+      answered (at-flag .read-field .ensures) (got-flag .flag .given .1),
+      answered (at-mode .read-mode .ensures) (got-mode .sent .given .1),
+    )
 
 pub read-switch-spec : {M : Type 1} → statement M
 read-switch-spec =

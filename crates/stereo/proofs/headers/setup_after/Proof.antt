@@ -21,7 +21,13 @@ mode-after-requires-2 c κs = search needs
 
 returns : tie.Need-returns
 unfolding setupAfter
-returns c = rw (c .before .before .before .before .flag-after .ensures, c .before .before .before .flag-after2 .ensures, c .before .before .flag-after3 .ensures, c .before .mode-after .ensures, c .mode-after2 .ensures)
+returns c = rw (
+  c .before .before .before .before .flag-after .ensures,
+  c .before .before .before .flag-after2 .ensures,
+  c .before .before .flag-after3 .ensures,
+  c .before .mode-after .ensures,
+  c .mode-after2 .ensures,
+)
 
 pub setup-after-spec : {M : Type 1} → statement M
 setup-after-spec =

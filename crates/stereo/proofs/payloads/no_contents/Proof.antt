@@ -18,7 +18,12 @@ no-extension-requires c κs = search needs
 
 returns : tie.Need-returns
 unfolding noContents
-returns c = rw (c .before .before .before .no-header .ensures, c .before .before .no-frame .ensures, c .before .no-rows .ensures, c .no-extension .ensures)
+returns c = rw (
+  c .before .before .before .no-header .ensures,
+  c .before .before .no-frame .ensures,
+  c .before .no-rows .ensures,
+  c .no-extension .ensures,
+)
 
 pub no-contents-spec : {M : Type 1} → statement M
 no-contents-spec =

@@ -46,7 +46,8 @@ returns-2 c =
     let e = q .before .before in
     let r = e .before .before .before in
     ap (λ (x : Ended). endedAnswer x (c .refused-contents2 .result .contents)) (c .refused-contents2 .ensures ∙ t)
-    ∙ icc-refused _ _ _ _ _ _ _ _ _ _ _ (ended-is (r .read-levels .result .rows) (r .read-levels .ensures) (e .levels-ended .given .1)) (ended-is (q .read-coherences .result .rows) (q .read-coherences .ensures) t)
+    ∙ icc-refused _ _ _ _ _ _ _ _ _ _ _ (ended-is (r .read-levels .result .rows) (r .read-levels .ensures) (e .levels-ended .given .1))
+    (ended-is (q .read-coherences .result .rows) (q .read-coherences .ensures) t)
 
 read-rest-requires : tie.Need-read-rest-requires
 read-rest-requires c κs = search needs
@@ -58,7 +59,8 @@ returns-3 c =
     let q = d .before .before .before in
     let e = q .before .before in
     let r = e .before .before .before in
-    envelopes-rest _ _ _ _ _ _ _ _ _ _ _ (ended-is (r .read-levels .result .rows) (r .read-levels .ensures) (e .levels-ended .given .1)) (ended-is (q .read-coherences .result .rows) (q .read-coherences .ensures) (d .coherences-ended .given .1))
+    envelopes-rest _ _ _ _ _ _ _ _ _ _ _ (ended-is (r .read-levels .result .rows) (r .read-levels .ensures) (e .levels-ended .given .1))
+    (ended-is (q .read-coherences .result .rows) (q .read-coherences .ensures) (d .coherences-ended .given .1))
     (x .result .ended) (x .result .extension) (x .ensures)
 
 pub read-envelopes-spec : {M : Type 1} → statement M

@@ -46,7 +46,8 @@ returns-2 c =
     let e = q .before .before in
     let r = e .before .before .before in
     ap (λ (x : Ended). endedAnswer x (c .refused-contents2 .result .contents)) (c .refused-contents2 .ensures ∙ t)
-    ∙ frame-refused _ _ _ _ _ _ _ _ (ended-is (r .read-header .result .header) (r .read-header .ensures) (e .header-ended .given .1)) (ended-is (q .read-frame .result .frame) (q .read-frame .ensures .0) t)
+    ∙ frame-refused _ _ _ _ _ _ _ _ (ended-is (r .read-header .result .header) (r .read-header .ensures) (e .header-ended .given .1))
+    (ended-is (q .read-frame .result .frame) (q .read-frame .ensures .0) t)
 
 setup-after-requires : tie.Need-setup-after-requires
 setup-after-requires c κs = search needs
@@ -61,7 +62,8 @@ returns-3 c =
     let e = q .before .before in
     let r = e .before .before .before in
     rw (c .before .setup-after .ensures) at (c .read-envelopes .ensures)
-    ∙ payload-rest _ _ _ _ _ _ _ _ (ended-is (r .read-header .result .header) (r .read-header .ensures) (e .header-ended .given .1)) (ended-is (q .read-frame .result .frame) (q .read-frame .ensures .0) (d .frame-ended .given .1))
+    ∙ payload-rest _ _ _ _ _ _ _ _ (ended-is (r .read-header .result .header) (r .read-header .ensures) (e .header-ended .given .1))
+    (ended-is (q .read-frame .result .frame) (q .read-frame .ensures .0) (d .frame-ended .given .1))
 
 pub read-payload-spec : {M : Type 1} → statement M
 read-payload-spec =

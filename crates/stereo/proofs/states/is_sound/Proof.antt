@@ -20,7 +20,11 @@ returns-2 : tie.Need-returns-2
 unfolding sound
 returns-2 c =
     let at-setup = c .before .before .before in
-    rw (sym (at-setup .before .is-sound-setup .ensures) ∙ not-false _ (at-setup .if1 .left), sym (c .before .is-sound .ensures) ∙ not-true _ (c .if2 .taken))
+    rw (
+      sym (at-setup .before .is-sound-setup .ensures) ∙ not-false _ (at-setup .if1 .left),
+      sym (c .before .is-sound .ensures)
+          ∙ not-true _ (c .if2 .taken),
+    )
 
 is-sound-requires-2 : tie.Need-is-sound-requires-2
 is-sound-requires-2 c κs = search needs

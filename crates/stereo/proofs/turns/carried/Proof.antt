@@ -25,10 +25,20 @@ phases-after-requires c κs = search needs
 returns : tie.Need-returns
 unfolding carried carriedIn
 returns c =
-    let s = c .before .before .before .before .before .before .before .before .before .before .before .before .before .before .before in
-    let i = c .before .before .before .before .before .before .before .before .before .before in
-    let q = c .before .before .before .before .before .before in
-    rw (i .record-after .ensures, i .before .last-row .ensures, q .record-after2 .ensures, q .before .last-row2 .ensures, c .before .before .phases-after .ensures, s .setup-after .ensures)
+    let at-before = c .before .before .before .before .before in
+    let at-before-2 = at-before .before .before .before .before in
+    let at-before-3 = at-before-2 .before .before .before .before .before in
+    let s = at-before-3 .before in
+    let i = at-before-2 .before in
+    let q = at-before .before in
+    rw (
+      i .record-after .ensures,
+      i .before .last-row .ensures,
+      q .record-after2 .ensures,
+      q .before .last-row2 .ensures,
+      c .before .before .phases-after .ensures,
+      s .setup-after .ensures,
+    )
 
 pub carried-spec : {M : Type 1} → statement M
 carried-spec =

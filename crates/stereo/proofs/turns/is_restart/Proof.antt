@@ -16,14 +16,23 @@ returns-2 c = rw (eq-eqb _ _ (c .before .before .if1 .left), ne-eqb _ _ (c .if2 
 
 returns-3 : tie.Need-returns-3
 unfolding restart
-returns-3 c = rw (eq-eqb _ _ (c .before .before .before .before .if1 .left), eq-eqb _ _ (c .before .before .if2 .left), ne-eqb _ _ (c .if3 .taken))
+returns-3 c = rw (
+  eq-eqb _ _ (c .before .before .before .before .if1 .left),
+  eq-eqb _ _ (c .before .before .if2 .left),
+  ne-eqb _ _ (c .if3 .taken),
+)
 
 returns-4 : tie.Need-returns-4
 unfolding restart
 returns-4 c =
     let at-icc = c .before .before .before in
     let at-iid = at-icc .before .before in
-    rw (eq-eqb _ _ (at-iid .before .before .if1 .left), eq-eqb _ _ (at-iid .if2 .left), eq-eqb _ _ (at-icc .if3 .left), lt-leb _ _ (c .if4 .taken))
+    rw (
+      eq-eqb _ _ (at-iid .before .before .if1 .left),
+      eq-eqb _ _ (at-iid .if2 .left),
+      eq-eqb _ _ (at-icc .if3 .left),
+      lt-leb _ _ (c .if4 .taken),
+    )
 
 is-across-requires : tie.Need-is-across-requires
 is-across-requires c κs = search needs

@@ -15,7 +15,10 @@ record-after-requires-2 c κs = search needs
 
 returns : tie.Need-returns
 unfolding phaseRecords
-returns c = rw (c .before .before .before .before .record-after .ensures, c .record-after2 .ensures, c .before .before .before .before .before .before .before .before .last-phases .ensures)
+returns c =
+    let at-record-after = c .before .before .before .before in
+    let at-last-phases = at-record-after .before .before .before .before in
+    rw (at-record-after .record-after .ensures, c .record-after2 .ensures, at-last-phases .last-phases .ensures)
 
 pub phases-after-spec : {M : Type 1} → statement M
 phases-after-spec =

@@ -57,7 +57,8 @@ loop-holds c =
       filled = filled-none 34 (pos 0);
       small = omega arith;
       before = search needs;
-      so-far = counted-start (more (index (a .kind) (a .mode) (a .time) (a .t7))) (c .before .bands .result) [] (a .s .now) (a .at) (a .end);
+      so-far = counted-start (more (index (a .kind) (a .mode) (a .time) (a .t7))) (c .before .bands .result) [] (a .s .now) (a .at)
+          (a .end);
     })
 
 array-copy-out-chosen : tie.Need-array-copy-out-chosen Inv-loop μ-loop
@@ -67,38 +68,53 @@ chosen-requires : tie.Need-chosen-requires Inv-loop μ-loop
 chosen-requires c κs = search needs
 
 -- the code adds to what the definition adds to
-from-is : (c : tie.After-chosen Inv-loop μ-loop) → let a = c .before .before .before .before .before .before .before .before .before .args in
+from-is : (c : tie.After-chosen Inv-loop μ-loop)
+    → let a = c .before .before .before .before .before .before .before .before .before .args in
     let l = c .before .before .before .loop in
     toZ w8 (ofZ w8 (c .chosen .result)) ≡ reference (a .time) (a .t7) (take (l .i) (l .indices))
 unfolding reference
 from-is c =
-    let a = c .before .before .before .before .before .before .before .before .before .args in
-    let l = c .before .before .before .loop in
+    let at-loop = c .before .before .before in
+    let entry = at-loop .before .before .before .before .before .before in
+    let a = entry .args in
+    let l = at-loop .loop in
     let e : SFits w8 (getD (a .t7) (l .i) (pos 0)) = record { sfits = c .before .chosen-arg .given } in
-    let p : SFits w8 (pick (eqb (a .time) 1) (getD (a .t7) (l .i) (pos 0)) (toZ w8 (l .last))) = pick-fits (eqb (a .time) 1) e (fits 15 (l .inv .small) (omega arith)) in
-    let q : c .chosen .result ≡ pick (eqb (a .time) 1) (getD (a .t7) (l .i) (pos 0)) (toZ w8 (l .last)) = rw (toZ-ofZ w8 _ e) at (c .chosen .ensures) in
+    let p : SFits w8 (pick (eqb (a .time) 1) (getD (a .t7) (l .i) (pos 0)) (toZ w8 (l .last))) =
+    pick-fits (eqb (a .time) 1) e (fits 15 (l .inv .small) (omega arith)) in
+    let q : c .chosen .result ≡ pick (eqb (a .time) 1) (getD (a .t7) (l .i) (pos 0)) (toZ w8 (l .last)) =
+    rw (toZ-ofZ w8 _ e) at (c .chosen .ensures) in
     ap (λ (z : ℤ). toZ w8 (ofZ w8 z)) q ∙ toZ-ofZ w8 _ p
-    ∙ rw (taken-long 34 (pos 0) (l .i) (l .indices) (omega arith) (l .inv .filled)) (ap (pick (eqb (a .time) 1) (getD (a .t7) (l .i) (pos 0))) (l .inv .before))
+    ∙ rw (taken-long 34 (pos 0) (l .i) (l .indices) (omega arith) (l .inv .filled))
+    (ap (pick (eqb (a .time) 1) (getD (a .t7) (l .i) (pos 0))) (l .inv .before))
 
 -- and reads what the definition reads
-step-is : (c : tie.After-read-index Inv-loop μ-loop) → let a = c .before .before .before .before .before .before .before .before .before .before .args in
+step-is : (c : tie.After-read-index Inv-loop μ-loop)
+    → let a = c .before .before .before .before .before .before .before .before .before .before .args in
     let l = c .before .before .before .before .loop in
-    index (a .kind) (a .mode) (a .time) (a .t7) (take (l .i) (l .indices)) (a .s .now) (l .place) (a .end) ≡ indexAnswer (c .read-index .result)
+    index (a .kind) (a .mode) (a .time) (a .t7) (take (l .i) (l .indices)) (a .s .now) (l .place) (a .end)
+    ≡ indexAnswer (c .read-index .result)
 unfolding index
 step-is c =
-    let a = c .before .before .before .before .before .before .before .before .before .before .args in
-    let l = c .before .before .before .before .loop in
-    ap (λ (z : ℤ). indexFrom (a .kind) (a .mode) (a .time) z (a .s .now) (l .place) (a .end)) (sym (from-is (c .before))) ∙ sym (c .read-index .ensures)
+    let at-loop = c .before .before .before .before in
+    let entry = at-loop .before .before .before .before .before .before in
+    let a = entry .args in
+    let l = at-loop .loop in
+    ap (λ (z : ℤ). indexFrom (a .kind) (a .mode) (a .time) z (a .s .now) (l .place) (a .end)) (sym (from-is (c .before)))
+    ∙ sym (c .read-index .ensures)
 
 -- an index that was read is in its range
-step-ranged : (c : tie.After-read-index Inv-loop μ-loop) (x : ℤ) (next : ℕ) → let a = c .before .before .before .before .before .before .before .before .before .before .args in
+step-ranged : (c : tie.After-read-index Inv-loop μ-loop) (x : ℤ) (next : ℕ)
+    → let a = c .before .before .before .before .before .before .before .before .before .before .args in
     let l = c .before .before .before .before .loop in
-    index (a .kind) (a .mode) (a .time) (a .t7) (take (l .i) (l .indices)) (a .s .now) (l .place) (a .end) ≡ got x next → inRange (a .kind) (a .mode) x ≡ true
+    index (a .kind) (a .mode) (a .time) (a .t7) (take (l .i) (l .indices)) (a .s .now) (l .place) (a .end) ≡ got x next
+    → inRange (a .kind) (a .mode) x ≡ true
 unfolding index
 step-ranged c x next q = index-ranged _ _ _ _ _ _ _ x next q
 
 read-index-requires : tie.Need-read-index-requires Inv-loop μ-loop
-read-index-requires c κs = c .before .before .before .before .before .before .before .before .before .pre
+read-index-requires c κs =
+    let entry = c .before .before .before .before .before .before .before .before .before in
+    entry .pre
 
 enum-known-x : tie.Need-enum-known-x Inv-loop μ-loop
 enum-known-x c = search needs
@@ -117,7 +133,8 @@ returns c =
     let f = index (a .kind) (a .mode) (a .time) (a .t7) in
     let n = p .before .before .before .before .before .before .bands .ensures .0 in
     let q = step-is p ∙ ap indexAnswer (c .before .number .given .1) in
-    let e = l .inv .so-far ∙ counted-stop (more f) (l .i) _ (take (l .i) (l .indices)) (a .s .now) (l .place) (a .end) _ _ (p .before .before .before .loop-test .taken)
+    let e = l .inv .so-far ∙ counted-stop (more f) (l .i) _ (take (l .i) (l .indices)) (a .s .now) (l .place) (a .end) _ _
+    (p .before .before .before .loop-test .taken)
     (more-refused f (l .i) (take (l .i) (l .indices)) (a .s .now) (l .place) (a .end) _ _ q) in
     indices-refused (a .kind) (a .mode) (a .time) (a .t7) (a .s .now) (a .at) (a .end) _ _ (rw n at e)
 
@@ -143,17 +160,22 @@ loop-again c =
       filled = filled-set 34 (pos 0) (l .i) (l .indices) x (l .inv .filled);
       small = small;
       before = sym (last-set 34 (pos 0) (l .i) (l .indices) x (pos 0) h (l .inv .filled));
-      so-far = l .inv .so-far ∙ counted-more (more f) (l .i) _ (take (l .i) (l .indices)) _ (a .s .now) (l .place) (a .end) _ (p .before .before .before .loop-test .taken)
-          (more-got f (l .i) (take (l .i) (l .indices)) x (a .s .now) (l .place) (a .end) _ q ∙ rw (taken-set 34 (pos 0) (l .i) (l .indices) x h (l .inv .filled)));
+      so-far = l .inv .so-far ∙ counted-more (more f) (l .i) _ (take (l .i) (l .indices)) _ (a .s .now) (l .place) (a .end) _
+          (p .before .before .before .loop-test .taken)
+          (more-got f (l .i) (take (l .i) (l .indices)) x (a .s .now) (l .place) (a .end) _ q
+          ∙ rw (taken-set 34 (pos 0) (l .i) (l .indices) x h (l .inv .filled)));
     })
 
 returns-2 : tie.Need-returns-2 Inv-loop μ-loop
 returns-2 c =
+    let at-bands = c .before .before .before in
+    let entry = at-bands .before .before .before .before in
     let l = c .before .loop in
-    let a = c .before .before .before .before .before .before .before .args in
+    let a = entry .args in
     let f = index (a .kind) (a .mode) (a .time) (a .t7) in
-    let n = c .before .before .before .bands .ensures .0 in
-    let e = l .inv .so-far ∙ counted-done (more f) (l .i) _ (take (l .i) (l .indices)) (a .s .now) (l .place) (a .end) (c .loop-test .left) in
+    let n = at-bands .bands .ensures .0 in
+    let e = l .inv .so-far ∙ counted-done (more f) (l .i) _ (take (l .i) (l .indices)) (a .s .now) (l .place) (a .end)
+    (c .loop-test .left) in
     ap (λ (xs : List ℤ). got xs (l .place)) (sym (filled-padded 34 (pos 0) (l .i) (l .indices) (omega arith) (l .inv .filled)))
     ∙ indices-got (a .kind) (a .mode) (a .time) (a .t7) (a .s .now) (a .at) (a .end) _ _ (rw n at e)
 

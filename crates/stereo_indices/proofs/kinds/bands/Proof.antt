@@ -16,7 +16,8 @@ returns : tie.Need-returns
 unfolding bands
 returns c =
     let a = c .before .before .before .args in
-    let e : c .by-mode .result ≡ bands (a .kind) (a .mode) = c .by-mode .ensures ∙ rw (sym (c .before .before .is-phase .ensures) ∙ c .before .if1 .taken) in
+    let e : c .by-mode .result ≡ bands (a .kind) (a .mode) = c .by-mode .ensures
+    ∙ rw (sym (c .before .before .is-phase .ensures) ∙ c .before .if1 .taken) in
     (e, rw e (bands-le (a .kind) (a .mode)))
 
 by-mode-requires-2 : tie.Need-by-mode-requires-2
@@ -26,7 +27,8 @@ returns-2 : tie.Need-returns-2
 unfolding bands
 returns-2 c =
     let a = c .before .before .before .args in
-    let e : c .by-mode2 .result ≡ bands (a .kind) (a .mode) = c .by-mode2 .ensures ∙ rw (sym (c .before .before .is-phase .ensures) ∙ c .before .if1 .left) in
+    let e : c .by-mode2 .result ≡ bands (a .kind) (a .mode) = c .by-mode2 .ensures
+    ∙ rw (sym (c .before .before .is-phase .ensures) ∙ c .before .if1 .left) in
     (e, rw e (bands-le (a .kind) (a .mode)))
 
 pub bands-spec : {M : Type 1} → statement M

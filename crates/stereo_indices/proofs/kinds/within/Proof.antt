@@ -15,13 +15,19 @@ returns-2 : tie.Need-returns-2
 unfolding within
 returns-2 c =
     let f = c .before .before .fits in
-    simp (rw (toZ-ofZ w16 _ (f .x), toZ-ofZ w16 _ (f .low)) at (c .before .if1 .left), rw (toZ-ofZ w16 _ (f .high), toZ-ofZ w16 _ (f .x)) at (c .if2 .taken))
+    simp (
+      rw (toZ-ofZ w16 _ (f .x), toZ-ofZ w16 _ (f .low)) at (c .before .if1 .left),
+      rw (toZ-ofZ w16 _ (f .high), toZ-ofZ w16 _ (f .x)) at (c .if2 .taken),
+    )
 
 returns-3 : tie.Need-returns-3
 unfolding within
 returns-3 c =
     let f = c .before .before .fits in
-    simp (rw (toZ-ofZ w16 _ (f .x), toZ-ofZ w16 _ (f .low)) at (c .before .if1 .left), rw (toZ-ofZ w16 _ (f .high), toZ-ofZ w16 _ (f .x)) at (c .if2 .left))
+    simp (
+      rw (toZ-ofZ w16 _ (f .x), toZ-ofZ w16 _ (f .low)) at (c .before .if1 .left),
+      rw (toZ-ofZ w16 _ (f .high), toZ-ofZ w16 _ (f .x)) at (c .if2 .left),
+    )
 
 pub within-spec : {M : Type 1} → statement M
 within-spec = tie.close (tie.spec returns returns-2 returns-3)

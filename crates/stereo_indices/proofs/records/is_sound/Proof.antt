@@ -18,7 +18,8 @@ sound-indices-requires c κs = search needs
 
 returns-2 : tie.Need-returns-2
 unfolding soundRecord
-returns-2 c = c .sound-indices .ensures ∙ rw (sym (c .before .before .before .is-mode .ensures) ∙ not-false _ (c .before .before .if1 .left))
+returns-2 c = c .sound-indices .ensures
+    ∙ rw (sym (c .before .before .before .is-mode .ensures) ∙ not-false _ (c .before .before .if1 .left))
 
 pub is-sound-spec : {M : Type 1} → statement M
 is-sound-spec = tie.close (tie.spec is-mode-requires returns sound-indices-requires returns-2)

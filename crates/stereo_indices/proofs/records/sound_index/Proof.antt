@@ -31,7 +31,11 @@ returns c =
     let a = c .before .before .before .before .before in
     let k = a .args .kind in
     let m = a .args .mode in
-    let r = rw (through w16 15 (c .before .before .least .ensures) (least-abs k m) (omega arith), through w16 15 (c .before .most .ensures) (most-abs k m) (omega arith), wide-is _ (a .fits .x)) at (c .within .ensures) in
+    let r = rw (
+      through w16 15 (c .before .before .least .ensures) (least-abs k m) (omega arith),
+      through w16 15 (c .before .most .ensures) (most-abs k m) (omega arith),
+      wide-is _ (a .fits .x),
+    ) at (c .within .ensures) in
     r ∙ rw (← c .before .before .before .before .record-bands .ensures, lt-ltb _ _ (c .before .before .before .if1 .taken))
 
 cast-within-2 : tie.Need-cast-within-2

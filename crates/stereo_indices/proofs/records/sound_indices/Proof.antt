@@ -15,7 +15,8 @@ use Rattle.stereo_indices.proofs.records.sound_indices.Statement.{state
 use Rattle.stereo_indices.proofs.records.sound_indices.Tie as tie
 
 abbrev Inv-loop : tie.InvT-loop
-Inv-loop kind mode indices i₀ i = (i ≤ 34) × (length indices ≡ 34) × (soundFrom kind mode 0 indices ≡ soundFrom kind mode i (drop i indices))
+Inv-loop kind mode indices i₀ i = (i ≤ 34) × (length indices ≡ 34)
+    × (soundFrom kind mode 0 indices ≡ soundFrom kind mode i (drop i indices))
 
 abbrev μ-loop : tie.MeasureT-loop
 μ-loop kind mode indices i₀ i = 34 - i

@@ -24,7 +24,8 @@ returns c =
     let w = c .before .before in
     let t = w .before .before in
     let f = t .before .before in
-    c .refused-row .ensures ∙ row-31 _ _ _ _ _ _ _ _ (answered (f .read-field .ensures) (t .time .given .1)) (sym (w .allowed .ensures) ∙ not-true _ (c .before .if1 .taken))
+    c .refused-row .ensures ∙ row-31 _ _ _ _ _ _ _ _ (answered (f .read-field .ensures) (t .time .given .1))
+    (sym (w .allowed .ensures) ∙ not-true _ (c .before .if1 .taken))
 
 read-indices-requires : tie.Need-read-indices-requires
 read-indices-requires c κs = search needs
@@ -41,7 +42,8 @@ returns-2 c =
     let t = w .before .before in
     let f = t .before .before in
     let r = c .before .read-indices in
-    row-rest _ _ _ _ _ _ _ _ (answered (f .read-field .ensures) (t .time .given .1)) (sym (w .allowed .ensures) ∙ not-false _ (c .before .before .before .if1 .left))
+    row-rest _ _ _ _ _ _ _ _ (answered (f .read-field .ensures) (t .time .given .1))
+    (sym (w .allowed .ensures) ∙ not-false _ (c .before .before .before .if1 .left))
     (r .result .ended) (r .result .indices) (r .ensures)
 
 returns-3 : tie.Need-returns-3

@@ -23,14 +23,16 @@ use Rattle.stereo_indices.proofs.rows.read_rows.Tie as tie
 abbrev next : Kind → ℕ → Record → List Row → Reader Row
 next k mode h rs = row k mode (recordAfterRows h mode rs)
 
-record Inv (f : List Row → Reader Row) (mode : ℕ) (h : Record) (s : List ℕ) (at end n : ℕ) (rows : List Row) (last : Record) (place k : ℕ) : Type 0 where
+record Inv (f : List Row → Reader Row) (mode : ℕ) (h : Record) (s : List ℕ) (at end n : ℕ) (rows : List Row) (last : Record)
+    (place k : ℕ) : Type 0 where
   within : k ≤ n
   filled : Filled 4 noRow k rows
   left : last ≡ recordAfterRows h mode (take k rows)
   so-far : counted 0 n (more f) [] s at end ≡ counted k (n - k) (more f) (take k rows) s place end
 
 abbrev Inv-loop : tie.InvT-loop
-Inv-loop s at end kind mode n codes lens rows₀ last₀ place₀ k₀ rows last place k = Inv (next kind mode last₀) mode last₀ s at end n rows last place k
+Inv-loop s at end kind mode n codes lens rows₀ last₀ place₀ k₀ rows last place k =
+    Inv (next kind mode last₀) mode last₀ s at end n rows last place k
 
 abbrev μ-loop : tie.MeasureT-loop
 μ-loop s at end kind mode n codes lens rows₀ last₀ place₀ k₀ rows last place k = n - k
@@ -50,7 +52,9 @@ loop-holds c =
     })
 
 read-row-requires : tie.Need-read-row-requires Inv-loop μ-loop
-read-row-requires c κs = let p = c .before .before .before .before .before .before .pre in (p .0, p .1)
+read-row-requires c κs =
+    let entry = c .before .before .before .before .before .before in
+    let p = entry .pre in (p .0, p .1)
 
 enum-known-ended : tie.Need-enum-known-ended Inv-loop μ-loop
 enum-known-ended c = search needs
@@ -65,7 +69,8 @@ enum-told : tie.Need-enum-told Inv-loop μ-loop
 enum-told c = search needs
 
 -- the code reads what the definition reads
-step-is : (c : tie.After-read-row Inv-loop μ-loop) (e : Ended) → c .read-row .result .ended ≡ e → let a = c .before .before .before .before .before .before .before .args in
+step-is : (c : tie.After-read-row Inv-loop μ-loop) (e : Ended) → c .read-row .result .ended ≡ e
+    → let a = c .before .before .before .before .before .before .before .args in
     let l = c .before .before .loop in
     next (a .kind) (a .mode) (a .rec) (take (l .k) (l .rows)) (a .s .now) (l .place) (a .end) ≡ endedAnswer e (c .read-row .result .row)
 step-is c e q =
@@ -82,7 +87,8 @@ returns c =
     let f = next (a .kind) (a .mode) (a .rec) in
     let told = c .enum-told .given .1 in
     let q = step-is p _ told in
-    let e = l .inv .so-far ∙ counted-stop (more f) (l .k) (a .n) (take (l .k) (l .rows)) (a .s .now) (l .place) (a .end) _ _ (p .before .loop-test .taken)
+    let e = l .inv .so-far ∙ counted-stop (more f) (l .k) (a .n) (take (l .k) (l .rows)) (a .s .now) (l .place) (a .end) _ _
+    (p .before .loop-test .taken)
     (more-refused f (l .k) (take (l .k) (l .rows)) (a .s .now) (l .place) (a .end) _ _ q) in
     ap (λ (x : Ended). endedAnswer x (l .rows)) told ∙ rows-refused (a .kind) (a .mode) (a .rec) (a .s .now) (a .at) (a .end) (a .n) _ _ e
 
@@ -106,16 +112,19 @@ loop-again c =
       within = omega arith;
       filled = filled-set 4 noRow (l .k) (l .rows) x (l .inv .filled);
       left = sym (ap (recordAfterRows (a .rec) (a .mode)) t ∙ recordAfterRows-more (a .rec) (a .mode) (take (l .k) (l .rows)) x);
-      so-far = l .inv .so-far ∙ counted-more (more f) (l .k) (a .n) (take (l .k) (l .rows)) _ (a .s .now) (l .place) (a .end) _ (p .before .loop-test .taken)
+      so-far = l .inv .so-far ∙ counted-more (more f) (l .k) (a .n) (take (l .k) (l .rows)) _ (a .s .now) (l .place) (a .end) _
+          (p .before .loop-test .taken)
           (more-got f (l .k) (take (l .k) (l .rows)) x (a .s .now) (l .place) (a .end) _ q ∙ rw t);
     }
 
 returns-2 : tie.Need-returns-2 Inv-loop μ-loop
 returns-2 c =
+    let entry = c .before .before .before .before .before .before in
     let l = c .before .loop in
-    let a = c .before .before .before .before .before .before .args in
+    let a = entry .args in
     let f = next (a .kind) (a .mode) (a .rec) in
-    let e = l .inv .so-far ∙ counted-done (more f) (l .k) (a .n) (take (l .k) (l .rows)) (a .s .now) (l .place) (a .end) (c .loop-test .left) in
+    let e = l .inv .so-far ∙ counted-done (more f) (l .k) (a .n) (take (l .k) (l .rows)) (a .s .now) (l .place) (a .end)
+    (c .loop-test .left) in
     ap (λ (rs : List Row). got rs (l .place)) (sym (filled-padded 4 noRow (l .k) (l .rows) (omega arith) (l .inv .filled)))
     ∙ rows-got (a .kind) (a .mode) (a .rec) (a .s .now) (a .at) (a .end) (a .n) _ _ e
 

@@ -28,7 +28,13 @@ unfolding added
 returns c =
     let a = c .before .before .before in
     let l : (c .magnitude .result + a .args .entry) % 8 < 2 ^ 15 = omega arith in
-    rw (toZ-pos w16 _ l, c .magnitude .ensures .0, sym (c .before .before .is-phase .ensures) ∙ c .before .if1 .taken, toZ-ofZ w8 _ (a .fits .x))
+    rw (
+      toZ-pos w16 _ l,
+      c .magnitude .ensures .0,
+      sym (c .before .before .is-phase .ensures)
+          ∙ c .before .if1 .taken,
+      toZ-ofZ w8 _ (a .fits .x),
+    )
 
 cast-difference : tie.Need-cast-difference
 cast-difference c = search needs

@@ -1,4 +1,5 @@
--- The word is the definition's, its entry is at most 60, so the sum goes through 16 bits unchanged and the test is the definition's; a sum in the range
+-- The word is the definition's, its entry is at most 60, so the sum goes through 16 bits unchanged and the test is the definition's; a
+-- sum in the range
 -- fits a byte.
 use Prim.Native.Nat.{_≤_}
 use mir.Val.{toZ, ofZ}
@@ -21,42 +22,54 @@ use Rattle.stereo_indices.proofs.steps.read_index.Tie as tie
 
 -- the table and the word
 word-is : (c : tie.After-known-told) → let a = c .before .before .before .before .before .before .before .before .args in
-    difference (a .kind) (a .mode) (a .time) (now (a .s)) (a .at) (a .end) ≡ got (c .before .entry .given .0 .0) (c .before .entry .given .0 .1 .0)
+    difference (a .kind) (a .mode) (a .time) (now (a .s)) (a .at) (a .end)
+    ≡ got (c .before .entry .given .0 .0) (c .before .entry .given .0 .1 .0)
 word-is c =
     let t = c .before .before .before in
     let d = t .before in
-    difference-is _ _ _ _ _ _ (d .difference-table .result) (d .difference-table .ensures .0) (answered (t .table-word .ensures) (c .before .entry .given .1))
+    difference-is _ _ _ _ _ _ (d .difference-table .result) (d .difference-table .ensures .0)
+    (answered (t .table-word .ensures) (c .before .entry .given .1))
 
 -- entries are few
 entry-small : (c : tie.After-known-told) → c .before .entry .given .0 .0 ≤ 60
 entry-small c =
     let t = c .before .before .before in
     let d = t .before in
-    entry-le (d .difference-table .result) _ _ _ _ _ (d .difference-table .ensures .1) (d .difference-table .ensures .2) (answered (t .table-word .ensures) (c .before .entry .given .1))
+    entry-le (d .difference-table .result) _ _ _ _ _ (d .difference-table .ensures .1) (d .difference-table .ensures .2)
+    (answered (t .table-word .ensures) (c .before .entry .given .1))
 
 -- the index that the code adds, and the test that it makes
 added-is : (c : tie.After-added) → let a = c .before .before .before .before .before .before .before .before .before .args in
     c .added .result ≡ added (a .kind) (a .mode) (a .from) (c .before .before .entry .given .0 .0)
 added-is c =
-    let a = c .before .before .before .before .before .before .before .before .before in
+    let at-before = c .before .before .before .before .before .before .before .before in
+    let a = at-before .before in
     rw (toZ-ofZ w8 _ (a .fits .from)) at (c .added .ensures)
 
 added-small : (c : tie.After-added) → let a = c .before .before .before .before .before .before .before .before .before .args in
     natAbs (added (a .kind) (a .mode) (a .from) (c .before .before .entry .given .0 .0)) ≤ 218
 added-small c =
-    let a = c .before .before .before .before .before .before .before .before .before in
+    let at-before = c .before .before .before .before .before .before .before .before in
+    let a = at-before .before in
     added-abs _ _ _ _ (entry-small (c .before)) (byte-abs _ (a .fits .from))
 
 wide : (c : tie.After-added) → let a = c .before .before .before .before .before .before .before .before .before .args in
     toZ w16 (ofZ w16 (c .added .result)) ≡ added (a .kind) (a .mode) (a .from) (c .before .before .entry .given .0 .0)
 wide c = through w16 218 (added-is c) (added-small c) (omega arith)
 
-tested : (c : tie.After-within) → let a = c .before .before .before .before .before .before .before .before .before .before .before .before .args in
-    c .within .result ≡ inRange (a .kind) (a .mode) (added (a .kind) (a .mode) (a .from) (c .before .before .before .before .before .entry .given .0 .0))
+tested : (c : tie.After-within)
+    → let a = c .before .before .before .before .before .before .before .before .before .before .before .before .args in
+    c .within .result ≡ inRange (a .kind) (a .mode)
+    (added (a .kind) (a .mode) (a .from) (c .before .before .before .before .before .entry .given .0 .0))
 tested c =
-    let a = c .before .before .before .before .before .before .before .before .before .before .before .before .args in
+    let entry = c .before .before .before .before .before .before .before .before .before .before .before .before in
+    let a = entry .args in
     let m = c .before in
-    rw (through w16 15 (m .before .least .ensures) (least-abs (a .kind) (a .mode)) (omega arith), through w16 15 (m .most .ensures) (most-abs (a .kind) (a .mode)) (omega arith), wide (m .before .before)) at (c .within .ensures)
+    rw (
+      through w16 15 (m .before .least .ensures) (least-abs (a .kind) (a .mode)) (omega arith),
+      through w16 15 (m .most .ensures) (most-abs (a .kind) (a .mode)) (omega arith),
+      wide (m .before .before),
+    ) at (c .within .ensures)
 
 difference-table-requires : tie.Need-difference-table-requires
 difference-table-requires c κs = search needs
@@ -103,7 +116,9 @@ returns-3 : tie.Need-returns-3
 returns-3 c =
     let t = c .before .before .before in
     let d = t .before in
-    index-refused _ _ _ _ _ _ _ _ _ (difference-is _ _ _ _ _ _ (d .difference-table .result) (d .difference-table .ensures .0) (answered (t .table-word .ensures) (c .before .number .given .1)))
+    index-refused _ _ _ _ _ _ _ _ _
+    (difference-is _ _ _ _ _ _ (d .difference-table .result) (d .difference-table .ensures .0)
+    (answered (t .table-word .ensures) (c .before .number .given .1)))
 
 pub read-index-spec : {M : Type 1} → statement M
 read-index-spec =

@@ -75,8 +75,10 @@ returns-10 c =
     let a = c .before .before .before .before .before in
     let t = a .args .table in
     let r = c .before .match .rest in
-    let p = above 15 t (above 14 t (above 13 t (above 12 t (a .pre .2) (r .0 .0 .0 .0 .0 .0 .0 .0 .1)) (r .0 .0 .0 .0 .0 .0 .0 .1)) (r .0 .0 .0 .0 .0 .0 .1)) (r .0 .0 .0 .0 .0 .1) in
-    let q = above 20 t (above 19 t (above 18 t (above 17 t (above 16 t p (r .0 .0 .0 .0 .1)) (r .0 .0 .0 .1)) (r .0 .0 .1)) (r .0 .1)) (r .1) in
+    let p = above 15 t (above 14 t (above 13 t (above 12 t (a .pre .2) (r .0 .0 .0 .0 .0 .0 .0 .0 .1)) (r .0 .0 .0 .0 .0 .0 .0 .1))
+    (r .0 .0 .0 .0 .0 .0 .1)) (r .0 .0 .0 .0 .0 .1) in
+    let q = above 20 t (above 19 t (above 18 t (above 17 t (above 16 t p (r .0 .0 .0 .0 .1)) (r .0 .0 .0 .1)) (r .0 .0 .1)) (r .0 .1))
+    (r .1) in
     let e : t ≡ 21 = last t q (a .pre .3) in
     c .overall-phase-time-word .ensures ∙ rw e
 

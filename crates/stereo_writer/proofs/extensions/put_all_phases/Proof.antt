@@ -1,5 +1,6 @@
 -- After k turns the phases of the first k envelopes stand one after another, each after the records before it.
-use Rattle.stereo_writer.proofs.WroteLaws.{wrote-none, wrote-nothing, wrote-then, wrote-as, wrote-most, wrote-length, room-after, each-more, taken-whole, record-more}
+use Rattle.stereo_writer.proofs.WroteLaws.{wrote-none, wrote-nothing, wrote-then, wrote-as, wrote-most, wrote-length, room-after}
+use Rattle.stereo_writer.proofs.WroteLaws.{each-more, taken-whole, record-more}
 use Rattle.stereo_writer.specs.Spelling.{spellPhases, spellAllPhases}
 use Rattle.stereo_writer.specs.InnerWrote.{Wrote}
 use Rattle.stereo.specs.Extension.{ipds, opds}
@@ -16,7 +17,9 @@ use Rattle.stereo_writer.proofs.extensions.put_all_phases.Statement.{st
 use Rattle.stereo_writer.proofs.extensions.put_all_phases.Tie as tie
 
 abbrev Inv-loop : tie.InvT-loop
-Inv-loop out₀ at on mode n codes lens phases ipd₀ opd₀ place₀ k₀ out ipd opd place k = (k ≤ 4) × (k ≤ n) × (length phases ≡ 4) × (ipd ≡ recordAfterRows ipd₀ mode (ipds (take k phases))) × (opd ≡ recordAfterRows opd₀ mode (opds (take k phases))) × Wrote (1362 * k) out₀ at (spellEach (spellPhases mode ipd₀ opd₀) [] (take k phases)) place out
+Inv-loop out₀ at on mode n codes lens phases ipd₀ opd₀ place₀ k₀ out ipd opd place k = (k ≤ 4) × (k ≤ n) × (length phases ≡ 4)
+    × (ipd ≡ recordAfterRows ipd₀ mode (ipds (take k phases))) × (opd ≡ recordAfterRows opd₀ mode (opds (take k phases)))
+    × Wrote (1362 * k) out₀ at (spellEach (spellPhases mode ipd₀ opd₀) [] (take k phases)) place out
 
 abbrev μ-loop : tie.MeasureT-loop
 μ-loop out₀ at on mode n codes lens phases ipd₀ opd₀ place₀ k₀ out ipd opd place k = 4 - k
@@ -66,7 +69,8 @@ loop-again c = let w = c .before .before .before .before .before .before in
       record-more (λ p. p .ipd) ipds refl (λ p ps. refl) (a .records .ipd) (a .mode) (a .t7) (l .loop .k) _ (omega arith),
       record-more (λ p. p .opd) opds refl (λ p ps. refl) (a .records .opd) (a .mode) (a .t7) (l .loop .k) _ (omega arith),
       wrote-as (wrote-then (l .loop .inv .5) (w .put-phases .ensures) (omega arith))
-          (rw (l .loop .inv .3, l .loop .inv .4) (each-more (spellPhases (a .mode) (a .records .ipd) (a .records .opd)) _ (a .t7) (l .loop .k) (omega arith))),
+          (rw (l .loop .inv .3, l .loop .inv .4)
+          (each-more (spellPhases (a .mode) (a .records .ipd) (a .records .opd)) _ (a .t7) (l .loop .k) (omega arith))),
     )
 
 same-length-2 : tie.Need-same-length-2 Inv-loop μ-loop

@@ -27,7 +27,8 @@ returns-2 c = let b = c .before .before in
     let s = b .before in
     let a = s .before .before .before .before in
     let e = s .at-most-seven .ensures in
-    wrote-as (wrote-then (a .put-body .ensures) (wrote-most {b = 7} (b .put-field .ensures) (omega arith)) (omega arith)) (rw (a .before .before .before .if1 .left, e))
+    wrote-as (wrote-then (a .put-body .ensures) (wrote-most {b = 7} (b .put-field .ensures) (omega arith)) (omega arith))
+    (rw (a .before .before .before .if1 .left, e))
 
 pub put-announced-spec : {M : Type 1} → statement M
 put-announced-spec =

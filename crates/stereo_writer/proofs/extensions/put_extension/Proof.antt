@@ -34,7 +34,8 @@ returns-2 c = let k = c .before .before in
     let a = b .before .before .before .before in
     let f = a .before .before in
     let twelve = wrote-then {most = 12} (a .put-field .ensures) (b .put-escape .ensures) (omega arith) in
-    wrote-as (wrote-then twelve (k .put-announced .ensures) (omega arith)) (rw (not-false (f .before .before .before .before .args .on) (f .if1 .left), s .is-empty .ensures))
+    wrote-as (wrote-then twelve (k .put-announced .ensures) (omega arith))
+    (rw (not-false (f .before .before .before .before .args .on) (f .if1 .left), s .is-empty .ensures))
 
 pub put-extension-spec : {M : Type 1} → statement M
 put-extension-spec =

@@ -1,5 +1,6 @@
 -- After k turns the first k borders stand one after another, 5 bits each.
-use Rattle.stereo_writer.proofs.WroteLaws.{wrote-none, wrote-nothing, wrote-then, wrote-as, wrote-most, wrote-length, room-after, each-more, taken-whole}
+use Rattle.stereo_writer.proofs.WroteLaws.{wrote-none, wrote-nothing, wrote-then, wrote-as, wrote-most, wrote-length, room-after}
+use Rattle.stereo_writer.proofs.WroteLaws.{each-more, taken-whole}
 use Rattle.stereo_writer.specs.Spelling.{spellBorder, spellBorders}
 use Rattle.stereo_writer.specs.InnerWrote.{Wrote}
 use Rattle.bits.specs.Spelled.{spellEach}
@@ -14,7 +15,8 @@ use Rattle.stereo_writer.proofs.fields.put_borders.Statement.{statement
 use Rattle.stereo_writer.proofs.fields.put_borders.Tie as tie
 
 abbrev Inv-loop : tie.InvT-loop
-Inv-loop out₀ at class n borders place₀ k₀ out place k = (k ≤ 4) × (k ≤ n) × (length borders ≡ 4) × Wrote (5 * k) out₀ at (spellEach spellBorder [] (take k borders)) place out
+Inv-loop out₀ at class n borders place₀ k₀ out place k = (k ≤ 4) × (k ≤ n) × (length borders ≡ 4)
+    × Wrote (5 * k) out₀ at (spellEach spellBorder [] (take k borders)) place out
 
 abbrev μ-loop : tie.MeasureT-loop
 μ-loop out₀ at class n borders place₀ k₀ out place k = 4 - k
@@ -59,7 +61,8 @@ loop-again c = let l = c .before .before .before .before .before .before in
       omega arith,
       omega arith,
       n,
-      wrote-as (wrote-then (l .loop .inv .3) (c .before .before .put-field .ensures) (omega arith)) (each-more spellBorder 0 (a .t5) (l .loop .k) (omega arith)),
+      wrote-as (wrote-then (l .loop .inv .3) (c .before .before .put-field .ensures) (omega arith))
+          (each-more spellBorder 0 (a .t5) (l .loop .k) (omega arith)),
     )
 
 same-length-2 : tie.Need-same-length-2 Inv-loop μ-loop

@@ -19,16 +19,26 @@ phase-records-requires : tie.Need-phase-records-requires
 phase-records-requires c κs = search needs
 
 put-extension-requires : tie.Need-put-extension-requires
-put-extension-requires c κs = let two = wrote-then {most = 5481} (c .before .before .before .before .before .before .before .before .before .before .before .before .put-levels .ensures) (c .before .before .before .before .before .put-rows .ensures) (omega arith) in
-    (room-after two (c .before .before .before .before .before .before .before .before .before .before .before .before .before .before .before .before .before .before .before .before .pre .0) (omega arith), c .before .before .before .before .before .before .before .before .before .before .before .before .before .before .before .before .before .before .before .before .pre .1)
+put-extension-requires c κs =
+    let at-put-rows = c .before .before .before .before .before in
+    let at-put-levels = at-put-rows .before .before .before .before .before .before .before in
+    let entry = at-put-levels .before .before .before .before .before .before .before .before in
+    let two = wrote-then {most = 5481} (at-put-levels .put-levels .ensures) (at-put-rows .put-rows .ensures) (omega arith) in
+    (room-after two (entry .pre .0) (omega arith), entry .pre .1)
 
 same-length : tie.Need-same-length
 same-length c = search needs
 
 returns : tie.Need-returns
 unfolding spelling spellingIn
-returns c = let two = wrote-then {most = 5481} (c .before .before .before .before .before .before .before .before .before .before .before .before .before .before .before .put-levels .ensures) (c .before .before .before .before .before .before .before .before .put-rows .ensures) (omega arith) in
-    wrote-as (wrote-then two (c .before .before .put-extension .ensures) (omega arith)) (rw (c .before .before .before .before .before .before .before .before .before .before .before .before .before .before .before .before .before .setup-after .ensures, c .before .before .before .before .before .phase-records .ensures))
+returns c =
+    let at-phase-records = c .before .before .before .before .before in
+    let at-put-rows = at-phase-records .before .before .before in
+    let at-put-levels = at-put-rows .before .before .before .before .before .before .before in
+    let at-setup-after = at-put-levels .before .before in
+    let two = wrote-then {most = 5481} (at-put-levels .put-levels .ensures) (at-put-rows .put-rows .ensures) (omega arith) in
+    wrote-as (wrote-then two (c .before .before .put-extension .ensures) (omega arith))
+    (rw (at-setup-after .setup-after .ensures, at-phase-records .phase-records .ensures))
 
 pub put-contents-spec : {M : Type 1} → statement M
 put-contents-spec =

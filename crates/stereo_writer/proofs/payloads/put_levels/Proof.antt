@@ -18,7 +18,10 @@ same-length : tie.Need-same-length
 same-length c = search needs
 
 returns : tie.Need-returns
-returns c = let two = wrote-then {most = 33} (c .before .before .before .before .before .before .before .before .before .before .before .before .before .put-header .ensures) (c .before .before .before .before .before .before .before .before .put-frame .ensures) (omega arith) in
+returns c =
+    let at-put-frame = c .before .before .before .before .before .before .before .before in
+    let at-put-header = at-put-frame .before .before .before .before .before in
+    let two = wrote-then {most = 33} (at-put-header .put-header .ensures) (at-put-frame .put-frame .ensures) (omega arith) in
     wrote-then two (c .before .before .put-rows .ensures) (omega arith)
 
 pub put-levels-spec : {M : Type 1} → statement M

@@ -31,7 +31,14 @@ returns : tie.Need-returns
 unfolding entryTo
 returns c = let p = c .before .before .before in
     let a = p .before in
-    rw (← (p .is-phase .ensures), c .before .before .if1 .taken, c .before .magnitude .ensures .0, c .magnitude2 .ensures .0, toZ-ofZ w8 _ (a .fits .x), toZ-ofZ w8 _ (a .fits .y))
+    rw (
+      ← (p .is-phase .ensures),
+      c .before .before .if1 .taken,
+      c .before .magnitude .ensures .0,
+      c .magnitude2 .ensures .0,
+      toZ-ofZ w8 _ (a .fits .x),
+      toZ-ofZ w8 _ (a .fits .y),
+    )
 
 cast-step : tie.Need-cast-step
 cast-step c = wide-fits _ (c .before .before .fits .y)
@@ -46,7 +53,8 @@ middle-requires : tie.Need-middle-requires
 middle-requires c κs = search needs
 
 add-step : tie.Need-add-step
-add-step c = let a = c .before .before .before in step-fits (a .args .kind) (a .args .mode) _ _ _ (a .fits .x) (a .fits .y) (c .middle .ensures)
+add-step c = let a = c .before .before .before in step-fits (a .args .kind) (a .args .mode) _ _ _ (a .fits .x) (a .fits .y)
+    (c .middle .ensures)
 
 sub-result-2 : tie.Need-sub-result-2
 sub-result-2 c = let a = c .before .before .before .before in

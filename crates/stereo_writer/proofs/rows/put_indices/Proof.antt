@@ -16,7 +16,8 @@ use Rattle.stereo_writer.proofs.rows.put_indices.Statement.{statement}
 use Rattle.stereo_writer.proofs.rows.put_indices.Tie as tie
 
 abbrev Inv-loop : tie.InvT-loop
-Inv-loop out₀ at kind mode time before xs codes lens count table place₀ i₀ out place i = (i ≤ count) × (length xs ≡ 34) × Wrote (20 * i) out₀ at (spellEach (spellIndex kind mode time before) [] (take i xs)) place out
+Inv-loop out₀ at kind mode time before xs codes lens count table place₀ i₀ out place i = (i ≤ count) × (length xs ≡ 34)
+    × Wrote (20 * i) out₀ at (spellEach (spellIndex kind mode time before) [] (take i xs)) place out
 
 abbrev μ-loop : tie.MeasureT-loop
 μ-loop out₀ at kind mode time before xs codes lens count table place₀ i₀ out place i = count - i
@@ -52,8 +53,13 @@ loop-again c = let l = c .before .before .before .before .before .before in
     let b = l .before .before .bands .ensures .1 in
     let t = l .before .difference-table .ensures .0 in
     let w = c .before .before .put-word .ensures in
-    let e = c .before .before .before .before .entry-at .ensures in
-    (omega arith, n, wrote-as (wrote-then (l .loop .inv .2) w (omega arith)) (rw (t, table-is (a .kind) (a .mode) (a .time), e) (each-more (spellIndex (a .kind) (a .mode) (a .time) (a .before)) (pos 0) (a .xs) (l .loop .i) (omega arith))))
+    let e = c .before .before .before .before .entry-at .ensures in (
+      omega arith,
+      n,
+      wrote-as (wrote-then (l .loop .inv .2) w (omega arith))
+          (rw (t, table-is (a .kind) (a .mode) (a .time), e)
+          (each-more (spellIndex (a .kind) (a .mode) (a .time) (a .before)) (pos 0) (a .xs) (l .loop .i) (omega arith))),
+    )
 
 same-length : tie.Need-same-length Inv-loop μ-loop
 same-length c = wrote-length (c .before .loop .inv .2)

@@ -1,5 +1,6 @@
 -- After k turns the rows of the first k envelopes stand one after another, each after the record before it.
-use Rattle.stereo_writer.proofs.WroteLaws.{wrote-none, wrote-nothing, wrote-then, wrote-as, wrote-most, wrote-length, room-after, each-more, taken-whole, record-more}
+use Rattle.stereo_writer.proofs.WroteLaws.{wrote-none, wrote-nothing, wrote-then, wrote-as, wrote-most, wrote-length, room-after}
+use Rattle.stereo_writer.proofs.WroteLaws.{each-more, taken-whole, record-more}
 use Rattle.stereo_writer.specs.Spelling.{spellNext, spellRows}
 use Rattle.stereo_writer.specs.InnerWrote.{Wrote}
 use Rattle.stereo_indices.specs.Rows.{recordAfterRows}
@@ -15,7 +16,9 @@ use Rattle.stereo_writer.proofs.rows.put_rows.Statement.{statement}
 use Rattle.stereo_writer.proofs.rows.put_rows.Tie as tie
 
 abbrev Inv-loop : tie.InvT-loop
-Inv-loop out₀ at kind on mode n codes lens rows last₀ place₀ k₀ out last place k = (k ≤ 4) × (k ≤ n) × (length rows ≡ 4) × (last ≡ recordAfterRows last₀ mode (take k rows)) × Wrote (681 * k) out₀ at (spellEach (spellNext kind mode last₀) [] (take k rows)) place out
+Inv-loop out₀ at kind on mode n codes lens rows last₀ place₀ k₀ out last place k = (k ≤ 4) × (k ≤ n) × (length rows ≡ 4)
+    × (last ≡ recordAfterRows last₀ mode (take k rows))
+    × Wrote (681 * k) out₀ at (spellEach (spellNext kind mode last₀) [] (take k rows)) place out
 
 abbrev μ-loop : tie.MeasureT-loop
 μ-loop out₀ at kind on mode n codes lens rows last₀ place₀ k₀ out last place k = 4 - k
@@ -55,14 +58,17 @@ loop-less : tie.Need-loop-less Inv-loop μ-loop
 loop-less c = search needs
 
 loop-again : tie.Need-loop-again Inv-loop μ-loop
-loop-again c = let l = c .before .before .before .before .before .before .before .before in
+loop-again c =
+    let at-put-row = c .before .before .before in
+    let at-before = at-put-row .before .before .before .before in
+    let l = at-before .before in
     let a = l .before .before .before .before .before .args in
     let n = l .loop .inv .2 in (
       omega arith,
       omega arith,
       n,
       record-more (λ r. r) (λ rs. rs) refl (λ r rs. refl) (a .rec) (a .mode) (a .t8) (l .loop .k) _ (omega arith),
-      wrote-as (wrote-then (l .loop .inv .4) (c .before .before .before .put-row .ensures) (omega arith))
+      wrote-as (wrote-then (l .loop .inv .4) (at-put-row .put-row .ensures) (omega arith))
           (rw (l .loop .inv .3) (each-more (spellNext (a .kind) (a .mode) (a .rec)) _ (a .t8) (l .loop .k) (omega arith))),
     )
 

@@ -11,13 +11,15 @@ use Rattle.stereo_writer.proofs.same.same_all_phases.Statement.{stateme
 use Rattle.stereo_writer.proofs.same.same_all_phases.Tie as tie
 
 abbrev Inv-loop : tie.InvT-loop
-Inv-loop xs ys i₀ i = SoFar samePhases (record { ipd = record { time = 0; indices = [] }; opd = record { time = 0; indices = [] } }) 4 i xs ys
+Inv-loop xs ys i₀ i = SoFar samePhases
+    (record { ipd = record { time = 0; indices = [] }; opd = record { time = 0; indices = [] } }) 4 i xs ys
 
 abbrev μ-loop : tie.MeasureT-loop
 μ-loop xs ys i₀ i = 4 - i
 
 loop-holds : tie.Need-loop-holds Inv-loop μ-loop
-loop-holds c = same-start samePhases (record { ipd = record { time = 0; indices = [] }; opd = record { time = 0; indices = [] } }) 4 _ _ (search needs) (search needs)
+loop-holds c = same-start samePhases (record { ipd = record { time = 0; indices = [] }; opd = record { time = 0; indices = [] } }) 4 _ _
+    (search needs) (search needs)
 
 mul-x : tie.Need-mul-x Inv-loop μ-loop
 mul-x c = search needs
@@ -35,7 +37,9 @@ same-phases-requires : tie.Need-same-phases-requires Inv-loop μ-loop
 same-phases-requires c κs = search needs
 
 returns : tie.Need-returns Inv-loop μ-loop
-returns c = same-stop samePhases (record { ipd = record { time = 0; indices = [] }; opd = record { time = 0; indices = [] } }) (c .before .before .before .before .before .loop .inv) (omega arith) (sym (c .before .same-phases .ensures) ∙ not-true (c .before .same-phases .result) (c .if1 .taken))
+returns c = same-stop samePhases (record { ipd = record { time = 0; indices = [] }; opd = record { time = 0; indices = [] } })
+    (c .before .before .before .before .before .loop .inv) (omega arith)
+    (sym (c .before .same-phases .ensures) ∙ not-true (c .before .same-phases .result) (c .if1 .taken))
 
 add-i : tie.Need-add-i Inv-loop μ-loop
 add-i c = search needs
@@ -44,10 +48,13 @@ loop-less : tie.Need-loop-less Inv-loop μ-loop
 loop-less c = search needs
 
 loop-again : tie.Need-loop-again Inv-loop μ-loop
-loop-again c = same-more samePhases (record { ipd = record { time = 0; indices = [] }; opd = record { time = 0; indices = [] } }) (c .before .before .before .before .before .loop .inv) (omega arith) (sym (c .before .same-phases .ensures) ∙ not-false (c .before .same-phases .result) (c .if1 .left))
+loop-again c = same-more samePhases (record { ipd = record { time = 0; indices = [] }; opd = record { time = 0; indices = [] } })
+    (c .before .before .before .before .before .loop .inv) (omega arith)
+    (sym (c .before .same-phases .ensures) ∙ not-false (c .before .same-phases .result) (c .if1 .left))
 
 returns-2 : tie.Need-returns-2 Inv-loop μ-loop
-returns-2 c = same-done samePhases (record { ipd = record { time = 0; indices = [] }; opd = record { time = 0; indices = [] } }) (c .before .loop .inv) (omega arith)
+returns-2 c = same-done samePhases (record { ipd = record { time = 0; indices = [] }; opd = record { time = 0; indices = [] } })
+    (c .before .loop .inv) (omega arith)
 
 pub same-all-phases-spec : {M : Type 1} → statement M
 same-all-phases-spec =

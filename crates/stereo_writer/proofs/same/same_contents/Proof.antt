@@ -19,7 +19,12 @@ same-frame-requires c κs = search needs
 returns-2 : tie.Need-returns-2
 unfolding sameContents
 returns-2 c = let t = c .before .before .before .before in
-    rw (← (t .before .same-header .ensures), not-false (t .before .same-header .result) (t .if1 .left), ← (c .before .same-frame .ensures), not-true (c .before .same-frame .result) (c .if2 .taken))
+    rw (
+      ← (t .before .same-header .ensures),
+      not-false (t .before .same-header .result) (t .if1 .left),
+      ← (c .before .same-frame .ensures),
+      not-true (c .before .same-frame .result) (c .if2 .taken),
+    )
 
 same-kinds-requires : tie.Need-same-kinds-requires
 same-kinds-requires c κs = search needs
@@ -28,7 +33,14 @@ returns-3 : tie.Need-returns-3
 unfolding sameContents
 returns-3 c = let f = c .before .before in
     let h = f .before .before .before .before in
-    rw (← (h .before .same-header .ensures), not-false (h .before .same-header .result) (h .if1 .left), ← (f .before .same-frame .ensures), not-false (f .before .same-frame .result) (f .if2 .left), ← (c .before .same-kinds .ensures), not-true (c .before .same-kinds .result) (c .if3 .taken))
+    rw (
+      ← (h .before .same-header .ensures),
+      not-false (h .before .same-header .result) (h .if1 .left),
+      ← (f .before .same-frame .ensures),
+      not-false (f .before .same-frame .result) (f .if2 .left),
+      ← (c .before .same-kinds .ensures),
+      not-true (c .before .same-kinds .result) (c .if3 .taken),
+    )
 
 same-extension-requires : tie.Need-same-extension-requires
 same-extension-requires c κs = search needs
@@ -38,7 +50,15 @@ unfolding sameContents
 returns-4 c = let k = c .before .before .before in
     let f = k .before .before in
     let h = f .before .before .before .before in
-    c .same-extension .ensures ∙ rw (← (h .before .same-header .ensures), not-false (h .before .same-header .result) (h .if1 .left), ← (f .before .same-frame .ensures), not-false (f .before .same-frame .result) (f .if2 .left), ← (k .before .same-kinds .ensures), not-false (k .before .same-kinds .result) (k .if3 .left))
+    c .same-extension .ensures
+    ∙ rw (
+      ← (h .before .same-header .ensures),
+      not-false (h .before .same-header .result) (h .if1 .left),
+      ← (f .before .same-frame .ensures),
+      not-false (f .before .same-frame .result) (f .if2 .left),
+      ← (k .before .same-kinds .ensures),
+      not-false (k .before .same-kinds .result) (k .if3 .left),
+    )
 
 pub same-contents-spec : {M : Type 1} → statement M
 same-contents-spec =

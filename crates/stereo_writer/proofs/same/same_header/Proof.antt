@@ -14,7 +14,10 @@ returns-2 c = rw (eq-eqb _ _ (c .before .before .before .if1 .left), ne-eqb _ _ 
 
 returns-3 : tie.Need-returns-3
 unfolding sameHeader
-returns-3 c = rw (eq-eqb _ _ (c .before .before .before .before .before .before .if1 .left), eq-eqb _ _ (c .before .before .before .if2 .left), ne-eqb _ _ (c .if3 .taken))
+returns-3 c =
+    let at-if2 = c .before .before .before in
+    let at-if1 = at-if2 .before .before .before in
+    rw (eq-eqb _ _ (at-if1 .if1 .left), eq-eqb _ _ (at-if2 .if2 .left), ne-eqb _ _ (c .if3 .taken))
 
 returns-4 : tie.Need-returns-4
 unfolding sameHeader
@@ -31,7 +34,13 @@ returns-5 c =
     let at-iidmode = at-icc .before .before .before in
     let at-iid = at-iidmode .before .before .before in
     let at-there = at-iid .before .before .before in
-    rw (eq-eqb _ _ (at-there .if1 .left), eq-eqb _ _ (at-iid .if2 .left), eq-eqb _ _ (at-iidmode .if3 .left), eq-eqb _ _ (at-icc .if4 .left), ne-eqb _ _ (c .if5 .taken))
+    rw (
+      eq-eqb _ _ (at-there .if1 .left),
+      eq-eqb _ _ (at-iid .if2 .left),
+      eq-eqb _ _ (at-iidmode .if3 .left),
+      eq-eqb _ _ (at-icc .if4 .left),
+      ne-eqb _ _ (c .if5 .taken),
+    )
 
 returns-6 : tie.Need-returns-6
 unfolding sameHeader
@@ -41,7 +50,13 @@ returns-6 c =
     let at-iidmode = at-icc .before .before .before in
     let at-iid = at-iidmode .before .before .before in
     let at-there = at-iid .before .before .before in
-    rw (eq-eqb _ _ (at-there .if1 .left), eq-eqb _ _ (at-iid .if2 .left), eq-eqb _ _ (at-iidmode .if3 .left), eq-eqb _ _ (at-icc .if4 .left), eq-eqb _ _ (at-iccmode .if5 .left))
+    rw (
+      eq-eqb _ _ (at-there .if1 .left),
+      eq-eqb _ _ (at-iid .if2 .left),
+      eq-eqb _ _ (at-iidmode .if3 .left),
+      eq-eqb _ _ (at-icc .if4 .left),
+      eq-eqb _ _ (at-iccmode .if5 .left),
+    )
 
 pub same-header-spec : {M : Type 1} → statement M
 same-header-spec = tie.close (tie.spec returns returns-2 returns-3 returns-4 returns-5 returns-6)

@@ -31,7 +31,8 @@ array-copy-out-if1-2 c = search needs
 returns : tie.Need-returns Inv-loop μ-loop
 returns c = let l = c .before .before .before .before .loop in
     let a = c .before .before .before .before .before .args in
-    same-stop sameIndex (pos 0) (l .inv) (omega arith) (index-differs (getD (a .t1) (l .i) (pos 0)) (getD (a .t2) (l .i) (pos 0)) (λ e. c .if1 .taken (ap (ofZ w8) e)))
+    same-stop sameIndex (pos 0) (l .inv) (omega arith)
+    (index-differs (getD (a .t1) (l .i) (pos 0)) (getD (a .t2) (l .i) (pos 0)) (λ e. c .if1 .taken (ap (ofZ w8) e)))
 
 add-i : tie.Need-add-i Inv-loop μ-loop
 add-i c = search needs

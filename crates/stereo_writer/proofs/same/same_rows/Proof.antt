@@ -35,7 +35,8 @@ same-row-requires : tie.Need-same-row-requires Inv-loop μ-loop
 same-row-requires c κs = search needs
 
 returns : tie.Need-returns Inv-loop μ-loop
-returns c = same-stop sameRow (record { time = 0; indices = [] }) (c .before .before .before .before .before .loop .inv) (omega arith) (sym (c .before .same-row .ensures) ∙ not-true (c .before .same-row .result) (c .if1 .taken))
+returns c = same-stop sameRow (record { time = 0; indices = [] }) (c .before .before .before .before .before .loop .inv) (omega arith)
+    (sym (c .before .same-row .ensures) ∙ not-true (c .before .same-row .result) (c .if1 .taken))
 
 add-i : tie.Need-add-i Inv-loop μ-loop
 add-i c = search needs
@@ -44,7 +45,8 @@ loop-less : tie.Need-loop-less Inv-loop μ-loop
 loop-less c = search needs
 
 loop-again : tie.Need-loop-again Inv-loop μ-loop
-loop-again c = same-more sameRow (record { time = 0; indices = [] }) (c .before .before .before .before .before .loop .inv) (omega arith) (sym (c .before .same-row .ensures) ∙ not-false (c .before .same-row .result) (c .if1 .left))
+loop-again c = same-more sameRow (record { time = 0; indices = [] }) (c .before .before .before .before .before .loop .inv)
+    (omega arith) (sym (c .before .same-row .ensures) ∙ not-false (c .before .same-row .result) (c .if1 .left))
 
 returns-2 : tie.Need-returns-2 Inv-loop μ-loop
 returns-2 c = same-done sameRow (record { time = 0; indices = [] }) (c .before .loop .inv) (omega arith)

@@ -26,10 +26,13 @@ slice-aggregate-put-contents-2 : tie.Need-slice-aggregate-put-contents-2
 slice-aggregate-put-contents-2 c = search needs
 
 put-contents-requires : tie.Need-put-contents-requires
-put-contents-requires c κs = (
-  record { size = ap length (c .before .before .before .before .before .before .pre) ∙ length-replicate {A = ℕ} 1536 0; left = omega arith },
-  (c .before .before .before .before .codes .ensures, c .before .before .before .lens .ensures),
-)
+put-contents-requires c κs =
+    let at-lens = c .before .before .before in
+    let at-codes = at-lens .before in
+    let entry = at-codes .before .before in (
+      record { size = ap length (entry .pre) ∙ length-replicate {A = ℕ} 1536 0; left = omega arith },
+      (at-codes .codes .ensures, at-lens .lens .ensures),
+    )
 
 slice-aggregate-is-read-back : tie.Need-slice-aggregate-is-read-back
 slice-aggregate-is-read-back c = search needs
@@ -38,19 +41,27 @@ slice-aggregate-is-read-back-2 : tie.Need-slice-aggregate-is-read-back-2
 slice-aggregate-is-read-back-2 c = search needs
 
 is-read-back-requires : tie.Need-is-read-back-requires
-is-read-back-requires c κs = let p = c .before .before .before .before .before .put-contents .ensures in
-    let a = c .before .before .before .before .before .before .before .before .before .before .before .before in
+is-read-back-requires c κs =
+    let at-put-contents = c .before .before .before .before .before in
+    let at-lens = at-put-contents .before .before .before .before in
+    let at-codes = at-lens .before in
+    let at-before = at-codes .before in
+    let p = at-put-contents .put-contents .ensures in
+    let a = at-before .before in
     let l = wrote-length p ∙ ap length (a .pre) ∙ length-replicate {A = ℕ} 1536 0 in
-    (omega (arith, p .ends, p .short, l), (c .before .before .before .before .before .before .before .before .before .before .codes .ensures, c .before .before .before .before .before .before .before .before .before .lens .ensures))
+    (omega (arith, p .ends, p .short, l), (at-codes .codes .ensures, at-lens .lens .ensures))
 
 same-length : tie.Need-same-length
 same-length c = search needs
 
 returns : tie.Need-returns
-returns c = let p = c .before .before .before .before .before .before .put-contents .ensures in
-    let a = c .before .before .before .before .before .before .before .before .before .before .before .before .before in
+returns c =
+    let at-put-contents = c .before .before .before .before .before .before in
+    let at-before = at-put-contents .before .before .before .before .before .before in
+    let p = at-put-contents .put-contents .ensures in
+    let a = at-before .before in
     let h = p .holds ∙ ap (λ (l : List ℕ). putAll l 0 (spelling (a .args .state) (a .args .contents))) (a .pre) in
-    let r = c .before .before .before .before .before .before .put-contents .result in
+    let r = at-put-contents .put-contents .result in
     let n : r ≡ total (spelling (a .args .state) (a .args .contents)) = omega (arith, p .ends) in
     let m : r ≤ 10952 = omega (arith, p .ends, p .short) in
     (n, m, c .is-read-back .ensures ∙ spelled-can (a .args .state) (a .args .contents) h n m, h)

@@ -23,8 +23,10 @@ refused-requires c κs = search needs
 returns : tie.Need-returns
 unfolding writing writtenOver
 returns c =
-    let at-sound = c .before .before in
-    (c .refused .ensures ∙ rw (← (at-sound .is-sound .ensures), not-true (at-sound .is-sound .result) (c .before .if1 .taken)), rw (c .refused .ensures))
+    let at-sound = c .before .before in (
+      c .refused .ensures ∙ rw (← (at-sound .is-sound .ensures), not-true (at-sound .is-sound .result) (c .before .if1 .taken)),
+      rw (c .refused .ensures),
+    )
 
 read-from-requires : tie.Need-read-from-requires
 read-from-requires c κs = search needs

@@ -19,7 +19,8 @@ enum-known-f c = search needs
 add-size : tie.Need-add-size
 add-size c =
     let x = c .before .before .before .before .before .args in
-    let few = ones-few (x .s .now) (x .at) (x .end) _ _ (answered (c .before .before .before .read-ones .ensures) (c .before .f .given .1)) in
+    let few = ones-few (x .s .now) (x .at) (x .end) _ _
+    (answered (c .before .before .before .read-ones .ensures) (c .before .f .given .1)) in
     search needs
 
 cast-read-field : tie.Need-cast-read-field
@@ -29,7 +30,8 @@ read-field-requires : tie.Need-read-field-requires
 read-field-requires c κs =
     let a = c .before .before .before .before .before in
     let x = a .args in
-    let few = ones-few (x .s .now) (x .at) (x .end) _ _ (answered (c .before .before .before .read-ones .ensures) (c .before .f .given .1)) in
+    let few = ones-few (x .s .now) (x .at) (x .end) _ _
+    (answered (c .before .before .before .read-ones .ensures) (c .before .f .given .1)) in
     (a .pre, omega arith)
 
 enum-known-g : tie.Need-enum-known-g
@@ -48,7 +50,8 @@ add-t17 c =
     let x = o .before .before .before .before .args in
     let n = o .f .given .0 .0 in
     let few = ones-few (x .s .now) (x .at) (x .end) _ _ (answered (o .before .before .read-ones .ensures) (o .f .given .1)) in
-    let below = field-below (n + 4) (x .s .now) _ (x .end) _ _ (answered (c .before .before .before .read-field .ensures) (c .before .g .given .1)) in
+    let below = field-below (n + 4) (x .s .now) _ (x .end) _ _
+    (answered (c .before .before .before .read-field .ensures) (c .before .g .given .1)) in
     rw (one-shl 32 (n + 4) (omega arith)) (omega (arith, pow-mono {i = n + 4} {j = 12} (omega arith)))
 
 enum-known-g-2 : tie.Need-enum-known-g-2
@@ -64,14 +67,16 @@ returns c =
     let e = answered (o .before .before .read-ones .ensures) (o .f .given .1) in
     let few = ones-few (x .s .now) (x .at) (x .end) _ _ e in
     rw (one-shl 32 (o .f .given .0 .0 + 4) (omega arith))
-    (sym (escape-is (x .s .now) (x .at) (x .end) _ _ _ _ e (answered (c .before .before .before .read-field .ensures) (c .before .g .given .1))))
+    (sym (escape-is (x .s .now) (x .at) (x .end) _ _ _ _ e
+    (answered (c .before .before .before .read-field .ensures) (c .before .g .given .1))))
 
 returns-2 : tie.Need-returns-2
 returns-2 c =
     let o = c .before .before .before .before .before in
     let x = o .before .before .before .before .args in
     let e = answered (o .before .before .read-ones .ensures) (o .f .given .1) in
-    sym (escape-short (x .s .now) (x .at) (x .end) _ _ _ _ e (answered (c .before .before .before .read-field .ensures) (c .before .g2 .given .1)))
+    sym (escape-short (x .s .now) (x .at) (x .end) _ _ _ _ e
+    (answered (c .before .before .before .read-field .ensures) (c .before .g2 .given .1)))
 
 returns-3 : tie.Need-returns-3
 returns-3 c =

@@ -29,11 +29,14 @@ enum-told c = search needs
 
 returns : tie.Need-returns Inv-loop μ-loop
 returns c =
-    let l = c .before .before .before .before .loop in
-    let x = c .before .before .before .before .before .before .args in
+    let at-loop-test = c .before .before .before in
+    let at-loop = at-loop-test .before in
+    let entry = at-loop .before .before in
+    let l = at-loop .loop in
+    let x = entry .args in
     let e = answered (c .before .before .read-field .ensures) (c .enum-told .given .1) in
     c .before .before .read-field .ensures ∙ e
-    ∙ sym (l .inv .1 ∙ ones-short (l .n) (x .s .now) (l .place) (x .end) _ _ (c .before .before .before .loop-test .taken) e)
+    ∙ sym (l .inv .1 ∙ ones-short (l .n) (x .s .now) (l .place) (x .end) _ _ (at-loop-test .loop-test .taken) e)
 
 returns-2 : tie.Need-returns-2 Inv-loop μ-loop
 returns-2 c =
@@ -54,8 +57,11 @@ loop-again c =
     let f = c .before .before in
     let l = f .before .before .before .before .loop in
     let x = f .before .before .before .before .before .before .args in
-    let e = answered (f .before .before .read-field .ensures) (f .f .given .1) in
-    (omega arith, l .inv .1 ∙ ones-more (l .n) (x .s .now) (l .place) (x .end) _ _ (f .before .before .before .loop-test .taken) e (c .if1 .left))
+    let e = answered (f .before .before .read-field .ensures) (f .f .given .1) in (
+      omega arith,
+      l .inv .1 ∙ ones-more (l .n) (x .s .now) (l .place) (x .end) _ _ (f .before .before .before .loop-test .taken) e
+          (c .if1 .left),
+    )
 
 returns-3 : tie.Need-returns-3 Inv-loop μ-loop
 returns-3 c =
