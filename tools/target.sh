@@ -5,7 +5,7 @@ top=$(pwd -P)
 
 # say WORDS: a line on standard error.
 say() {
-    echo "$me: $*" >&2
+    printf '%s\n' "$me: $*" >&2
 }
 
 # need_kit: proving takes the kit.
@@ -78,20 +78,25 @@ sum() {
 sources_of() {
     crates=$(crates_of "$1")
     {
-        for crate in $crates; do grep "^$crate *:" crates.txt; done
+        for crate in $crates; do grep "^[[:space:]]*$crate[[:space:]]*:" crates.txt; done
         # shellcheck disable=SC2086
         (cd crates && find $crates -type f ! -path '*/must-fail/*' -exec sha256sum {} + 2>/dev/null) | sort
     } | sum
 }
 
-# kit_home: the kit's folder, found as rt finds it.
+# kit_home: the kit's folder.
 kit_home() {
-    echo "${RATTLE_HOME:-$(dirname "$(dirname "$(readlink -f "$(command -v rt)")")")}"
+    dirname "$(dirname "$(rt doc)")"
 }
 
-# kit_name: which kit it is.
+# kit_command: where rt is, and the folder that its user may have set for it.
+kit_command() {
+    echo "$(readlink -f "$(command -v rt)") ${RATTLE_HOME:-}"
+}
+
+# kit_name HOME: which kit it is.
 kit_name() {
-    cat "$(kit_home)/KIT-ID" 2>/dev/null || echo unknown
+    cat "$1/KIT-ID" 2>/dev/null || echo unknown
 }
 
 # recorded NAME WORD: what the record of a built program, target/built/NAME, has under a word.
@@ -103,18 +108,22 @@ recorded() {
 is_fresh() {
     [ -x "target/bin/$1" ] && [ -f "target/built/$1" ] && [ -f "$(recorded "$1" loader)" ] || return 1
     [ "$(recorded "$1" sources)" = "$(sources_of "$1")" ] && [ "$(recorded "$1" program)" = "$(sum <"target/bin/$1")" ] || return 1
-    ! command -v rt >/dev/null 2>&1 || [ "$(recorded "$1" kit)" = "$(kit_name)" ]
+    command -v rt >/dev/null 2>&1 || return 0
+    [ "$(recorded "$1" rt)" = "$(kit_command)" ] && [ "$(recorded "$1" kit)" = "$(kit_name "$(recorded "$1" home)")" ]
 }
 
 # record NAME SOURCES: what a program was built of, and what it takes to run it.
 record() {
-    chain=$(kit_home)/on/$(uname -m)/toolchain
+    home=$(kit_home)
+    chain=$home/on/$(uname -m)/toolchain
     emulator=$chain/bin/qemu-x86_64
     mkdir -p target/built || return 1
     {
         echo "sources $2"
         echo "program $(sum <"target/bin/$1")"
-        echo "kit $(kit_name)"
+        echo "rt $(kit_command)"
+        echo "home $home"
+        echo "kit $(kit_name "$home")"
         [ ! -x "$emulator" ] || echo "emulator $emulator"
         echo "loader $chain/lib/ld-linux-x86-64.so.2"
         echo "libraries $chain/lib"
