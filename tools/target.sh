@@ -173,7 +173,7 @@ build() (
     is_fresh "$1" && exit 0
     forget "$1"
     sources=$(sources_of "$1")
-    say "proving and building $1, of $(crates_of "$1" | wc -l) crates: five to seven minutes in a new checkout; later only what has changed"
+    say "proving and building $1, of $(crates_of "$1" | wc -l) crates: five to ten minutes in a new checkout; later only what has changed"
     prove "$1" rt check "$1" || exit 1
     [ "$sources" = "$(sources_of "$1")" ] || { say "the sources of $1 changed while they were proved: run this again"; exit 1; }
     record "$1" "$sources"

@@ -14,14 +14,22 @@ NOT_READ = "standard input cannot be read"
 NOT_WRITTEN = "standard output cannot be written: lines are missing"
 LONG_IMAGE = image(4, [SILENT_CHANNEL, KEEP_STEREO] * 512)
 PIPE_ROOM = 4096
+LONGEST = 60
 
 
 def call(command, data=None, **words):
     """A command, run to its end: on an image, or on what the words say its input is."""
     words.setdefault("stdout", subprocess.PIPE)
     if data is not None:
-        words["input"] = data
-    return subprocess.run(command, stderr=subprocess.PIPE, timeout=600, **words)
+        words["stdin"] = subprocess.PIPE
+    running = subprocess.Popen(command, stderr=subprocess.PIPE, start_new_session=True, **words)
+    try:
+        out, said = running.communicate(data, timeout=LONGEST)
+    except subprocess.TimeoutExpired:
+        os.killpg(running.pid, signal.SIGKILL)
+        running.communicate()
+        raise
+    return subprocess.CompletedProcess(command, running.returncode, out, said)
 
 
 def fault(what, done, status, sentence):
