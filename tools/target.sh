@@ -80,7 +80,7 @@ sources_of() {
     {
         for crate in $crates; do grep "^[[:space:]]*$crate[[:space:]]*:" crates.txt; done
         # shellcheck disable=SC2086
-        (cd crates && find $crates -type f ! -path '*/must-fail/*' -exec sha256sum {} + 2>/dev/null) | sort
+        (cd crates && find $crates -type f ! -path '*/must-fail/*' -exec sha256sum {} + 2>/dev/null) | LC_ALL=C sort
     } | sum
 }
 
