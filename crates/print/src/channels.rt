@@ -15,24 +15,30 @@ fn places(groups: u8, bands: u8) -> usize {
     n
 }
 
-// The numbers of a channel stream that was read.
-fn print_numbers(r: Reading, lines: &[i16], factors: &[u8], books: &[u8]) {
+// The numbers of a channel stream that was read; the answer is whether all were written.
+fn print_numbers(r: Reading, lines: &[i16], factors: &[u8], books: &[u8]) -> bool {
     let groups = r.groups;
     let n = places(r.group_count, r.max_sfb);
-    rows::say_window(
+    if !rows::say_window(
         r.sequence as u32,
         r.shape as u32,
         r.max_sfb as u32,
         &groups,
         r.group_count as usize,
-    );
-    rows::say_numbers(b"  books", books, n);
-    rows::say_numbers(b"  factors", factors, n);
-    rows::say_values(lines);
+    ) {
+        return false;
+    }
+    if !rows::say_numbers(b"  books", books, n) {
+        return false;
+    }
+    if !rows::say_numbers(b"  factors", factors, n) {
+        return false;
+    }
+    rows::say_values(lines)
 }
 
-// The numbers of a channel payload, where it is accepted.
-pub fn print_channel(bytes: &[u8], index: u8)
+// The numbers of a channel payload, where it is accepted; false where one was not written.
+pub fn print_channel(bytes: &[u8], index: u8) -> bool
     requires { ⌜ length (now bytes) ≤ 65535 ⌝ }
 {
     let mut lines = [0i16; 1024];
@@ -40,7 +46,8 @@ pub fn print_channel(bytes: &[u8], index: u8)
     let mut books = [0u8; 120];
     let end = bytes.len() as u32;
     let r = channel::read_channel(bytes, 0, end, index, &mut lines, &mut factors, &mut books);
-    if r.number == 0 {
-        print_numbers(r, &lines, &factors, &books);
+    if r.number != 0 {
+        return true;
     }
+    print_numbers(r, &lines, &factors, &books)
 }

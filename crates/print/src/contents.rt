@@ -1,5 +1,6 @@
 // What a stereo payload holds, printed.
 ghost use Prim.Native.Nat.{_<_};
+use crate::Printed;
 use crate::records;
 use print_lines::rows;
 use stereo::Contents;
@@ -10,12 +11,11 @@ use stereo::State;
 use stereo_indices::Row;
 
 // The header.
-fn print_header(h: Header) {
+fn print_header(h: Header) -> bool {
     if h.there == 1 {
-        rows::say_header(h.iid == 1, h.iidmode, h.icc == 1, h.iccmode, h.ext);
-        return;
+        return rows::say_header(h.iid == 1, h.iidmode, h.icc == 1, h.iccmode, h.ext);
     }
-    rows::say_words(b"  header -");
+    rows::say_words(b"  header -")
 }
 
 // A border as a byte; it has 5 bits.
@@ -27,24 +27,37 @@ fn small(border: u32) -> u8 {
 }
 
 // The frame class and the borders, which are sent where they are variable.
-fn print_frame(f: Frame) {
+fn print_frame(f: Frame) -> bool {
     let bs = f.borders;
     let borders = [small(bs[0]), small(bs[1]), small(bs[2]), small(bs[3])];
     if f.class == 1 {
-        rows::say_class(f.class, &borders, f.envelopes);
-        return;
+        return rows::say_class(f.class, &borders, f.envelopes);
     }
-    rows::say_class(f.class, &borders, 0);
+    rows::say_class(f.class, &borders, 0)
 }
 
 // A row's indices.
-fn print_row(words: &[u8], row: Row) {
+fn print_row(words: &[u8], row: Row) -> bool {
     let indices = row.indices;
-    rows::say_indices(words, &indices);
+    rows::say_indices(words, &indices)
 }
 
-// The four rows of an envelope.
-fn print_envelope(e: usize, state: State, contents: Contents)
+// The four rows of an envelope; the answer is whether all were written.
+fn print_rows(iid: Row, icc: Row, ipd: Row, opd: Row) -> bool {
+    if !print_row(b"  iid", iid) {
+        return false;
+    }
+    if !print_row(b"  icc", icc) {
+        return false;
+    }
+    if !print_row(b"  ipd", ipd) {
+        return false;
+    }
+    print_row(b"  opd", opd)
+}
+
+// An envelope: how its four kinds were coded, and their rows.
+fn print_envelope(e: usize, state: State, contents: Contents) -> bool
     requires { ⌜ e < 4 ⌝ }
 {
     let setup = state.setup;
@@ -60,15 +73,14 @@ fn print_envelope(e: usize, state: State, contents: Contents)
     let c = p.ipd;
     let d = p.opd;
     let phase = body.phase == 1;
-    rows::say_envelope(
+    if !rows::say_envelope(
         e,
         [setup.iid, setup.icc, phase, phase],
         [a.time, b.time, c.time, d.time],
-    );
-    print_row(b"  iid", a);
-    print_row(b"  icc", b);
-    print_row(b"  ipd", c);
-    print_row(b"  opd", d);
+    ) {
+        return false;
+    }
+    print_rows(a, b, c, d)
 }
 
 // The size that an extension announces.
@@ -83,10 +95,9 @@ fn announced(size: u32, esc: u32) -> u32 {
 }
 
 // The extension.
-fn print_extension(x: Extension) {
+fn print_extension(x: Extension) -> bool {
     if x.there != 1 {
-        rows::say_words(b"  extension -");
-        return;
+        return rows::say_words(b"  extension -");
     }
     let part = x.part;
     let body = part.body;
@@ -94,34 +105,61 @@ fn print_extension(x: Extension) {
     if part.count < 8 {
         count = part.count as u32;
     }
-    rows::say_extension(announced(x.size, x.esc), body.phase, part.value, count);
+    rows::say_extension(announced(x.size, x.esc), body.phase, part.value, count)
 }
 
-// The contents, with the state after them.
-fn print_contents(contents: Contents, state: State) {
-    let header = contents.header;
-    print_header(header);
-    let frame = contents.frame;
-    print_frame(frame);
+// The envelopes, of which there are at most four; the answer is whether all were written.
+fn print_envelopes(count: usize, state: State, contents: Contents) -> bool {
     let mut e = 0;
     while e < 4 {
-        if e < frame.envelopes {
-            print_envelope(e, state, contents);
+        if e < count {
+            if !print_envelope(e, state, contents) {
+                return false;
+            }
         }
         e += 1;
     }
+    true
+}
+
+// The contents, from the state after them; the answer is whether all were written.
+fn print_contents(contents: Contents, state: State) -> bool {
+    let header = contents.header;
+    if !print_header(header) {
+        return false;
+    }
+    let frame = contents.frame;
+    if !print_frame(frame) {
+        return false;
+    }
+    if !print_envelopes(frame.envelopes, state, contents) {
+        return false;
+    }
     let extension = contents.extension;
-    print_extension(extension);
+    print_extension(extension)
+}
+
+// What a stereo payload holds, where it is accepted; false where some of it was not written.
+fn print_accepted(number: u8, contents: Contents, state: State) -> bool {
+    if number != 0 {
+        return true;
+    }
+    print_contents(contents, state)
 }
 
 // The contents of a stereo payload, where it is accepted, and the state after it, which comes back.
-pub fn print_stereo(state: State, bytes: &[u8]) -> State {
+pub fn print_stereo(state: State, bytes: &[u8]) -> Printed {
     let r = stereo_reader::read(state, bytes, 0, bytes.len());
     let next = r.state;
-    if r.number == 0 {
-        let contents = r.contents;
-        print_contents(contents, next);
+    let contents = r.contents;
+    if !print_accepted(r.number, contents, next) {
+        return Printed {
+            written: false,
+            state: next,
+        };
     }
-    records::print_state(next);
-    next
+    Printed {
+        written: records::print_state(next),
+        state: next,
+    }
 }

@@ -1,15 +1,23 @@
 // A tag image on standard input, printed: the line of each payload, and in full what it holds and the stereo state after it.
 ghost use Prim.Native.Nat.{_≤_};
 ghost use lib.ListN.{length};
+ghost use Rattle.io.specs.Counts.{Counts};
 use stereo::State;
 use stereo::states;
 
 mod channels;
 mod contents;
+mod input;
 mod records;
 
+// Whether a payload's rows were all written, and the stereo state after it.
+struct Printed {
+    written: bool,
+    state: State,
+}
+
 // What the k-th payload holds, from the state before it; the state after it comes back.
-fn print_details(image: &[u8], k: usize, index: u8, state: State) -> State
+fn print_details(image: &[u8], k: usize, index: u8, state: State) -> Printed
     requires { ⌜ length (now image) ≤ 65535 ⌝ }
 {
     let part = image::part_of(image, k);
@@ -17,49 +25,75 @@ fn print_details(image: &[u8], k: usize, index: u8, state: State) -> State
     let end = part.end;
     let bytes = &image[start..end];
     if k % 2 == 0 {
-        channels::print_channel(bytes, index);
-        return state;
+        return Printed {
+            written: channels::print_channel(bytes, index),
+            state: state,
+        };
     }
     contents::print_stereo(state, bytes)
 }
 
-// The payloads of an image that has this outline, in their order.
-fn print_payloads(image: &[u8], count: usize, index: u8, rows: &[usize], full: bool)
+// The payloads of an image that has this outline, in their order, up to the first line that is not written; whether all were.
+fn print_payloads(image: &[u8], count: usize, index: u8, rows: &[usize], full: bool) -> bool
     requires { ⌜ (length (now image) ≤ 65535) × (count ≤ 1024) × (4096 ≤ length (now rows)) ⌝ }
 {
     let mut state = states::fresh();
     let mut k = 0;
     while k < count {
         let at = 4 * k;
-        print_lines::say_payload(k, rows[at], rows[at + 1], rows[at + 2], rows[at + 3]);
+        if !print_lines::say_payload(k, rows[at], rows[at + 1], rows[at + 2], rows[at + 3]) {
+            return false;
+        }
         if full {
-            state = print_details(image, k, index, state);
+            let printed = print_details(image, k, index, state);
+            if !printed.written {
+                return false;
+            }
+            let next = printed.state;
+            state = next;
         }
         k += 1;
     }
+    true
 }
 
-// An image.
-fn print_image(image: &[u8], full: bool)
+// An image; the answer is whether every line was written.
+fn print_image(image: &[u8], full: bool) -> bool
     requires { ⌜ length (now image) ≤ 65535 ⌝ }
 {
     let mut rows = [0usize; 4096];
     let header = image_outline::read_image(image, &mut rows);
     if header.number != 0 {
-        print_lines::say_refused_image(header.number);
-        return;
+        return print_lines::say_refused_image(header.number);
     }
-    print_lines::say_count(header.count);
-    print_payloads(image, header.count, header.index, &rows, full);
+    if !print_lines::say_count(header.count) {
+        return false;
+    }
+    print_payloads(image, header.count, header.index, &rows, full)
 }
 
-// The image on standard input; one that fills the buffer is too long.
+// The first n bytes of the input; where they fill the buffer, the image is too long.
+fn print_read(buffer: &[u8], n: usize, full: bool) -> bool
+    requires { ⌜ Counts n (now buffer) ⌝ }
+{
+    if 65535 < n {
+        return print_lines::say_refused_image(5);
+    }
+    print_image(&buffer[..n], full)
+}
+
+// The image on standard input. A fault of the input or the output is told on standard error, of which tools/run makes an exit status.
 pub fn print_input(full: bool) {
     let mut image = io::large_buffer();
-    let n = io::read_full(0, &mut image);
-    if n == 65536 {
-        print_lines::say_refused_image(5);
+    let input = input::read_input(&mut image);
+    if !input.readable {
+        io::write_all(2, b"oarcradler: standard input cannot be read\n");
         return;
     }
-    print_image(&image[..n], full);
+    if !print_read(&image, input.size, full) {
+        io::write_all(
+            2,
+            b"oarcradler: standard output cannot be written: lines are missing\n",
+        );
+    }
 }

@@ -12,31 +12,43 @@ fn bit(on: bool) -> u8 {
 }
 
 // A kind's record; mode 7 is none.
-fn print_record(words: &[u8], none: &[u8], rec: Record) {
+fn print_record(words: &[u8], none: &[u8], rec: Record) -> bool {
     let indices = rec.indices;
     if rec.mode == 7 {
-        rows::say_words(none);
-        return;
+        return rows::say_words(none);
     }
-    rows::say_record(words, rec.mode, &indices);
+    rows::say_record(words, rec.mode, &indices)
 }
 
-// The set-up, the mark, and the four records.
-pub fn print_state(state: State) {
+// The four records; the answer is whether all were written.
+fn print_records(state: State) -> bool {
+    let iid = state.iid;
+    if !print_record(b"  record iid", b"  record iid -", iid) {
+        return false;
+    }
+    let icc = state.icc;
+    if !print_record(b"  record icc", b"  record icc -", icc) {
+        return false;
+    }
+    let ipd = state.ipd;
+    if !print_record(b"  record ipd", b"  record ipd -", ipd) {
+        return false;
+    }
+    let opd = state.opd;
+    print_record(b"  record opd", b"  record opd -", opd)
+}
+
+// The set-up, the mark, and the four records; the answer is whether all were written.
+pub fn print_state(state: State) -> bool {
     let setup = state.setup;
     let enabled = [bit(setup.iid), bit(setup.icc), bit(setup.ext)];
-    rows::say_state(
+    if !rows::say_state(
         setup.iidmode,
         setup.iccmode,
         &enabled,
         bit(state.instep) as u32,
-    );
-    let iid = state.iid;
-    print_record(b"  record iid", b"  record iid -", iid);
-    let icc = state.icc;
-    print_record(b"  record icc", b"  record icc -", icc);
-    let ipd = state.ipd;
-    print_record(b"  record ipd", b"  record ipd -", ipd);
-    let opd = state.opd;
-    print_record(b"  record opd", b"  record opd -", opd);
+    ) {
+        return false;
+    }
+    print_records(state)
 }

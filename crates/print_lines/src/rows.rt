@@ -1,4 +1,4 @@
-// The rows of a dump: what stands under a line of the listing, indented by two spaces.
+// The rows of a dump: what stands under a line of the listing, indented by two spaces. Each `say` answers whether its row was written.
 use crate::text;
 
 // A mode, or a dash where there is none.
@@ -35,15 +35,15 @@ fn put_indices(line: &mut [u8], at: usize, indices: &[i8]) -> usize {
 }
 
 // Words, and the first n numbers of a slice.
-pub fn say_numbers(words: &[u8], numbers: &[u8], n: usize) {
+pub fn say_numbers(words: &[u8], numbers: &[u8], n: usize) -> bool {
     let mut line = [0u8; 1024];
     let at = text::put(&mut line, 0, words);
     let at = put_numbers(&mut line, at, numbers, n);
-    text::say(&mut line, at);
+    text::say(&mut line, at)
 }
 
 // A channel stream's window information, with the windows of each group.
-pub fn say_window(sequence: u32, shape: u32, max_sfb: u32, windows: &[u8], groups: usize) {
+pub fn say_window(sequence: u32, shape: u32, max_sfb: u32, windows: &[u8], groups: usize) -> bool {
     let mut line = [0u8; 128];
     let at = text::put(&mut line, 0, b"  window");
     let at = text::put_next(&mut line, at, sequence as u64);
@@ -53,7 +53,7 @@ pub fn say_window(sequence: u32, shape: u32, max_sfb: u32, windows: &[u8], group
     let at = text::put_next(&mut line, at, max_sfb as u64);
     let at = text::put(&mut line, at, b" groups");
     let at = put_numbers(&mut line, at, windows, groups);
-    text::say(&mut line, at);
+    text::say(&mut line, at)
 }
 
 // The place and the value of a line that is not 0.
@@ -78,15 +78,15 @@ fn put_values(line: &mut [u8], at: usize, lines: &[i16]) -> usize {
 }
 
 // The place and the value of each line that is not 0.
-pub fn say_values(lines: &[i16]) {
+pub fn say_values(lines: &[i16]) -> bool {
     let mut line = [0u8; 12288];
     let at = text::put(&mut line, 0, b"  values");
     let at = put_values(&mut line, at, lines);
-    text::say(&mut line, at);
+    text::say(&mut line, at)
 }
 
 // A header that was sent: a mode for each kind that is on, and the extension's flag.
-pub fn say_header(iid_on: bool, iid: u32, icc_on: bool, icc: u32, ext: u32) {
+pub fn say_header(iid_on: bool, iid: u32, icc_on: bool, icc: u32, ext: u32) -> bool {
     let mut line = [0u8; 64];
     let at = text::put(&mut line, 0, b"  header iid");
     let at = put_mode(&mut line, at, iid_on, iid);
@@ -94,24 +94,24 @@ pub fn say_header(iid_on: bool, iid: u32, icc_on: bool, icc: u32, ext: u32) {
     let at = put_mode(&mut line, at, icc_on, icc);
     let at = text::put(&mut line, at, b" ext");
     let at = text::put_next(&mut line, at, ext as u64);
-    text::say(&mut line, at);
+    text::say(&mut line, at)
 }
 
 // Words alone.
-pub fn say_words(words: &[u8]) {
+pub fn say_words(words: &[u8]) -> bool {
     let mut line = [0u8; 64];
     let at = text::put(&mut line, 0, words);
-    text::say(&mut line, at);
+    text::say(&mut line, at)
 }
 
 // The frame class and the borders.
-pub fn say_class(class: u32, borders: &[u8], n: usize) {
+pub fn say_class(class: u32, borders: &[u8], n: usize) -> bool {
     let mut line = [0u8; 64];
     let at = text::put(&mut line, 0, b"  class");
     let at = text::put_next(&mut line, at, class as u64);
     let at = text::put(&mut line, at, b" borders");
     let at = put_numbers(&mut line, at, borders, n);
-    text::say(&mut line, at);
+    text::say(&mut line, at)
 }
 
 // How a kind was coded: across frequency, across time, or not sent.
@@ -126,7 +126,7 @@ fn put_direction(line: &mut [u8], at: usize, sent: bool, time: u32) -> usize {
 }
 
 // How the four kinds of an envelope were coded; level and coherence are sent where they are on, phases together.
-pub fn say_envelope(e: usize, sent: [bool; 4], times: [u32; 4]) {
+pub fn say_envelope(e: usize, sent: [bool; 4], times: [u32; 4]) -> bool {
     let mut line = [0u8; 64];
     let at = text::put(&mut line, 0, b"  envelope");
     let at = text::put_next(&mut line, at, e as u64);
@@ -138,24 +138,24 @@ pub fn say_envelope(e: usize, sent: [bool; 4], times: [u32; 4]) {
     let at = put_direction(&mut line, at, sent[2], times[2]);
     let at = text::put(&mut line, at, b" opd");
     let at = put_direction(&mut line, at, sent[3], times[3]);
-    text::say(&mut line, at);
+    text::say(&mut line, at)
 }
 
 // Words, and a row of indices.
-pub fn say_indices(words: &[u8], indices: &[i8]) {
+pub fn say_indices(words: &[u8], indices: &[i8]) -> bool {
     let mut line = [0u8; 256];
     let at = text::put(&mut line, 0, words);
     let at = put_indices(&mut line, at, indices);
-    text::say(&mut line, at);
+    text::say(&mut line, at)
 }
 
 // A kind's record: its mode and indices.
-pub fn say_record(words: &[u8], mode: u32, indices: &[i8]) {
+pub fn say_record(words: &[u8], mode: u32, indices: &[i8]) -> bool {
     let mut line = [0u8; 256];
     let at = text::put(&mut line, 0, words);
     let at = text::put_next(&mut line, at, mode as u64);
     let at = put_indices(&mut line, at, indices);
-    text::say(&mut line, at);
+    text::say(&mut line, at)
 }
 
 // The bit of weight 2^k.
@@ -181,23 +181,22 @@ fn put_bits(line: &mut [u8], at: usize, value: u32, count: u32) -> usize {
 }
 
 // The extension's size, and where it is not empty the phase flag and the fill bits.
-pub fn say_extension(size: u32, phase: u32, fill: u32, count: u32) {
+pub fn say_extension(size: u32, phase: u32, fill: u32, count: u32) -> bool {
     let mut line = [0u8; 96];
     let at = text::put(&mut line, 0, b"  extension size");
     let at = text::put_next(&mut line, at, size as u64);
     if size == 0 {
-        text::say(&mut line, at);
-        return;
+        return text::say(&mut line, at);
     }
     let at = text::put(&mut line, at, b" phase");
     let at = text::put_next(&mut line, at, phase as u64);
     let at = text::put(&mut line, at, b" fill");
     let at = put_bits(&mut line, at, fill, count);
-    text::say(&mut line, at);
+    text::say(&mut line, at)
 }
 
 // The state's modes, of which 7 was never sent, its enable flags and its mark.
-pub fn say_state(iid: u32, icc: u32, enabled: &[u8], step: u32) {
+pub fn say_state(iid: u32, icc: u32, enabled: &[u8], step: u32) -> bool {
     let mut line = [0u8; 96];
     let at = text::put(&mut line, 0, b"  state iid");
     let at = put_mode(&mut line, at, iid != 7, iid);
@@ -207,5 +206,5 @@ pub fn say_state(iid: u32, icc: u32, enabled: &[u8], step: u32) {
     let at = put_numbers(&mut line, at, enabled, 3);
     let at = text::put(&mut line, at, b" step");
     let at = text::put_next(&mut line, at, step as u64);
-    text::say(&mut line, at);
+    text::say(&mut line, at)
 }

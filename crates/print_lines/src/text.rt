@@ -57,10 +57,11 @@ pub fn put_index(line: &mut [u8], at: usize, n: i8) -> usize {
     put_signed(line, to, n as i16)
 }
 
-// The line is ended and written out.
-pub fn say(line: &mut [u8], at: usize) {
-    let to = put(line, at, b"\n");
-    if to <= line.len() {
-        io::write_all(1, &line[..to]);
+// The line is ended and written out, whole or not at all; the answer is whether all of it was written.
+pub fn say(line: &mut [u8], at: usize) -> bool {
+    if line.len() <= at {
+        return false;
     }
+    line[at] = b'\n';
+    io::write_all(1, &line[..at + 1])
 }

@@ -22,20 +22,23 @@ returns c = search needs
 say-count-requires : tie.Need-say-count-requires
 say-count-requires c κs = search needs
 
+returns-2 : tie.Need-returns-2
+returns-2 c = search needs
+
 slice-aggregate-print-payloads : tie.Need-slice-aggregate-print-payloads
 slice-aggregate-print-payloads c = search needs
 
 print-payloads-requires : tie.Need-print-payloads-requires
 print-payloads-requires c κs =
-    let read = c .before .before .before .before .before in
+    let read = c .before .before .before .before .before .before in
     let a = read .before .before .before .args in
     let outline = read .read-image .ensures .0 in
     let long : 4096 ≤ length (read .read-image .last .1 .0) = search needs in
-    let zero = rw outline at (c .before .before .if1 .left) in
+    let zero = rw outline at (c .before .before .before .if1 .left) in
     (read .before .before .before .pre, rw outline (outline-few (a .image .now) 4096 zero), long)
 
-returns-2 : tie.Need-returns-2
-returns-2 c = search needs
+returns-3 : tie.Need-returns-3
+returns-3 c = search needs
 
 pub print-image-spec : {M : Type 1} → statement M
 print-image-spec =
@@ -46,6 +49,7 @@ print-image-spec =
     say-refused-image-requires
     returns
     say-count-requires
+    returns-2
     slice-aggregate-print-payloads
     print-payloads-requires
-    returns-2)
+    returns-3)

@@ -56,8 +56,14 @@ shared-slice-read-say-payload-4 c = search needs
 say-payload-requires : tie.Need-say-payload-requires Inv-loop μ-loop
 say-payload-requires c κs = search needs
 
+returns : tie.Need-returns Inv-loop μ-loop
+returns c = search needs
+
 print-details-requires : tie.Need-print-details-requires Inv-loop μ-loop
 print-details-requires c κs = search needs
+
+returns-2 : tie.Need-returns-2 Inv-loop μ-loop
+returns-2 c = search needs
 
 add-k : tie.Need-add-k Inv-loop μ-loop
 add-k c = search needs
@@ -68,8 +74,8 @@ loop-less c = search needs
 loop-again : tie.Need-loop-again Inv-loop μ-loop
 loop-again c = search needs
 
-returns : tie.Need-returns Inv-loop μ-loop
-returns c = search needs
+returns-3 : tie.Need-returns-3 Inv-loop μ-loop
+returns-3 c = search needs
 
 pub print-payloads-spec : {M : Type 1} → statement M
 print-payloads-spec =
@@ -92,8 +98,10 @@ print-payloads-spec =
     mul-say-payload-4
     shared-slice-read-say-payload-4
     say-payload-requires
+    returns
     print-details-requires
+    returns-2
     add-k
     loop-less
     loop-again
-    returns)
+    returns-3)

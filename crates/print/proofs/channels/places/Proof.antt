@@ -1,3 +1,5 @@
+-- A group has at most 255 bands, so the sum of at most 255 groups does not wrap.
+-- Assumes nothing.
 use Prim.Native.Nat.{_≤_, _-_, _*_}
 use borrow.Author.Needs.{needs}
 use Rattle.print.proofs.channels.places.Statement.{statement}

@@ -1,3 +1,5 @@
+-- Each turn takes the next lower bit, until none is left.
+-- Assumes nothing.
 use Prim.Native.Nat.{_≤_}
 use mathlib.Core.Path.{_≡_}
 use lib.ListN.{length}

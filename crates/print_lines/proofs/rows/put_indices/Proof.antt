@@ -1,3 +1,5 @@
+-- Each turn takes the next index, which is inside the slice.
+-- Assumes nothing.
 use Prim.Native.Nat.{_≤_, _-_}
 use mathlib.Core.Path.{_≡_}
 use lib.ListN.{length}

@@ -1,3 +1,5 @@
+-- Widened to 64 bits, a number of 16 has a negation that fits.
+-- Assumes nothing.
 use Rattle.print_lines.proofs.Signs.{widened, negated, below, above}
 use borrow.Author.Needs.{needs}
 use Rattle.print_lines.proofs.text.magnitude.Statement.{statement}

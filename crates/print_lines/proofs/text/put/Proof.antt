@@ -1,3 +1,5 @@
+-- A byte is put only where the line has room, so the place never passes the line; each turn takes one of the words' bytes.
+-- Assumes nothing.
 use Prim.Native.Nat.{_≤_, _-_}
 use mathlib.Core.Path.{_≡_}
 use lib.ListN.{length}

@@ -1,3 +1,5 @@
+-- An index of 8 bits fits in 16.
+-- Assumes nothing.
 use Rattle.bits.proofs.Signed.{wide-fits}
 use borrow.Author.Needs.{needs}
 use Rattle.print_lines.proofs.text.put_index.Statement.{statement}
