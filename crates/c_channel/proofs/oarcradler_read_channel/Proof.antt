@@ -39,8 +39,7 @@ same-length-3 c = search needs
 
 returns-2 : tie.Need-returns-2
 returns-2 c =
-    let at-before = c .before .before .before .before .before .before .before in
-    let read = at-before .before in
+    let read = c .before .before .before .before .before .before .before .before in
     let narrowed = read .before .before .before .before in
     let tested = narrowed .before in
     let a = tested .before .before .before .before .before .before .args in
@@ -51,8 +50,7 @@ returns-2 c =
 
 put-reading-requires : tie.Need-put-reading-requires
 put-reading-requires c κs =
-    let at-before = c .before .before .before .before .before .before .before .before .before .before .before .before in
-    let tested = at-before .before in
+    let tested = c .before .before .before .before .before .before .before .before .before .before .before .before .before in
     let a = tested .before .before .before .before .before .before .args in
     call-room (length (a .buf .now)) (a .start) (a .end) 17 (length (a .answer .now))
     (sym (tested .before .call-refusal .ensures) ∙ tested .if1 .left)
@@ -71,8 +69,7 @@ same-length-7 c = search needs
 
 returns-3 : tie.Need-returns-3
 returns-3 c =
-    let at-before = c .before .before .before .before .before .before .before .before .before .before in
-    let read = at-before .before in
+    let read = c .before .before .before .before .before .before .before .before .before .before .before in
     let narrowed = read .before .before .before .before in
     let tested = narrowed .before in
     let a = tested .before .before .before .before .before .before .args in

@@ -88,8 +88,7 @@ same-length-2 c = search needs
 
 returns-2 : tie.Need-returns-2
 returns-2 c =
-    let at-before = c .before .before .before .before .before .before in
-    let tested = at-before .before in
+    let tested = c .before .before .before .before .before .before .before in
     let j = tested .before in
     let a = j .before .before .before .before .before .args in
     let e : stereoCallRefusal (a .state .now) (length (a .buf .now)) (a .start) (a .end) (length (a .answer .now)) ≡ 0 =
@@ -101,8 +100,7 @@ returns-2 c =
 
 put-state-requires : tie.Need-put-state-requires
 put-state-requires c κs =
-    let at-before = c .before .before .before .before .before .before in
-    let tested = at-before .before in
+    let tested = c .before .before .before .before .before .before .before in
     let j = tested .before in
     let a = j .before .before .before .before .before .args in
     let e : stereoCallRefusal (a .state .now) (length (a .buf .now)) (a .start) (a .end) (length (a .answer .now)) ≡ 0 =
@@ -111,8 +109,7 @@ put-state-requires c κs =
 
 put-answer-requires : tie.Need-put-answer-requires
 put-answer-requires c κs =
-    let at-before = c .before .before .before .before .before .before .before .before .before .before in
-    let tested = at-before .before in
+    let tested = c .before .before .before .before .before .before .before .before .before .before .before in
     let j = tested .before in
     let a = j .before .before .before .before .before .args in
     let e : stereoCallRefusal (a .state .now) (length (a .buf .now)) (a .start) (a .end) (length (a .answer .now)) ≡ 0 =
@@ -127,14 +124,12 @@ same-length-4 c = search needs
 
 returns-3 : tie.Need-returns-3
 returns-3 c =
-    let at-before = c .before .before .before .before .before in
-    let at-before-2 = at-before .before .before .before .before .before .before .before .before in
-    let tested = at-before-2 .before in
+    let tested = c .before .before .before .before .before .before .before .before .before .before .before .before .before .before in
     let j = tested .before in
     let a = j .before .before .before .before .before .args in
     let e : stereoCallRefusal (a .state .now) (length (a .buf .now)) (a .start) (a .end) (length (a .answer .now)) ≡ 0 =
     _∙_ {b = j .stereo-call-refusal .result} (sym (j .stereo-call-refusal .ensures)) (tested .if1 .left) in
-    let put = at-before .before in
+    let put = c .before .before .before .before .before .before in
     let read = put .before .before .before .before in
     let r : read .read-bytes .result ≡ stereoReading (a .state .now) (a .buf .now) (a .start) (a .end) = read .read-bytes .ensures
     ∙ rw (read .before .before .state-at .ensures) in

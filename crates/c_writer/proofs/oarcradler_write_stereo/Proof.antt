@@ -92,8 +92,7 @@ slice-aggregate-put c = search needs
 
 put-requires : tie.Need-put-requires
 put-requires c κs =
-    let at-before = c .before .before .before .before .before .before .before .before .before .before in
-    let w = at-before .before in
+    let w = c .before .before .before .before .before .before .before .before .before .before .before in
     let tested = w .before .before .before .before .before .before in
     let j = tested .before in
     let a = j .before .before .before .before .before .args in
@@ -112,9 +111,7 @@ same-length-7 c = search needs
 
 returns-3 : tie.Need-returns-3
 returns-3 c =
-    let at-before = c .before .before .before .before .before .before .before in
-    let at-before-2 = at-before .before .before .before .before .before .before in
-    let w = at-before-2 .before in
+    let w = c .before .before .before .before .before .before .before .before .before .before .before .before .before .before in
     let wanted = w .before .before in
     let state = wanted .before .before in
     let tested = state .before .before in
@@ -127,7 +124,7 @@ returns-3 c =
     ≡ writtenOver (stereoWriting (a .state .now) (a .contents .now) (length (a .out .now))) (stateAt (a .state .now))
     (contentsAt (a .contents .now)) (a .out .now) =
     w .write .ensures .1 ∙ rw (r, state .state-at .ensures, wanted .contents-at .ensures) in
-    let put = at-before .before in
+    let put = c .before .before .before .before .before .before .before .before in
     let ends = accepted (a .state .now) (a .contents .now) (a .out .now) e (rw r at (put .before .before .if2 .left)) in
     let bits = c .before .before in (
       ends .0,

@@ -62,8 +62,7 @@ returns-2 : tie.Need-returns-2
 unfolding channelIn
 returns-2 c =
     let at-if1 = c .before .before .before in
-    let at-before = at-if1 .before .before .before .before in
-    let read = at-before .before in
+    let read = at-if1 .before .before .before .before .before in
     let books = read .before .before .before .before in
     let factors = books .before in
     let lines = factors .before in

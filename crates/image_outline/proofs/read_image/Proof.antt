@@ -50,8 +50,7 @@ same-length c = search needs
 
 returns-3 : tie.Need-returns-3
 returns-3 c =
-    let at-before = c .before .before .before .before .before .before in
-    let header = at-before .before in
+    let header = c .before .before .before .before .before .before .before in
     let a = header .before .before .before .args in
     let h = header .read-header .ensures in
     let filled = c .before .before in

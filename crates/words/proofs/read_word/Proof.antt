@@ -36,8 +36,7 @@ shared-slice-read-compare-2 c = search needs
 compare-requires : tie.Need-compare-requires Inv-loop μ-loop
 compare-requires c κs =
     let at-loop = c .before .before .before in
-    let at-before = at-loop .before .before .before .before in
-    let a = at-before .before in
+    let a = at-loop .before .before .before .before .before in
     (omega arith, a .pre .1 .narrow (at-loop .loop .i) (omega arith))
 
 enum-told : tie.Need-enum-told Inv-loop μ-loop

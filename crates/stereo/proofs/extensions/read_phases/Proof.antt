@@ -26,9 +26,8 @@ no-phases-requires c κs = search needs
 returns : tie.Need-returns
 returns c =
     let at-ended = c .before .before .before .before in
-    let at-before = at-ended .before .before in
     let r = c .before .read-row2 in
-    let p = at-before .before in
+    let p = at-ended .before .before .before in
     phases-rest _ _ _ _ _ _ _ _ (ended-is (p .read-row .result .row) (p .read-row .ensures) (at-ended .ended .given .1))
     (r .result .ended) (r .result .row) (r .ensures)
 

@@ -25,12 +25,9 @@ phases-after-requires c κs = search needs
 returns : tie.Need-returns
 unfolding carried carriedIn
 returns c =
-    let at-before = c .before .before .before .before .before in
-    let at-before-2 = at-before .before .before .before .before in
-    let at-before-3 = at-before-2 .before .before .before .before .before in
-    let s = at-before-3 .before in
-    let i = at-before-2 .before in
-    let q = at-before .before in
+    let s = c .before .before .before .before .before .before .before .before .before .before .before .before .before .before .before in
+    let i = c .before .before .before .before .before .before .before .before .before .before in
+    let q = c .before .before .before .before .before .before in
     rw (
       i .record-after .ensures,
       i .before .last-row .ensures,

@@ -42,15 +42,13 @@ entry-small c =
 added-is : (c : tie.After-added) → let a = c .before .before .before .before .before .before .before .before .before .args in
     c .added .result ≡ added (a .kind) (a .mode) (a .from) (c .before .before .entry .given .0 .0)
 added-is c =
-    let at-before = c .before .before .before .before .before .before .before .before in
-    let a = at-before .before in
+    let a = c .before .before .before .before .before .before .before .before .before in
     rw (toZ-ofZ w8 _ (a .fits .from)) at (c .added .ensures)
 
 added-small : (c : tie.After-added) → let a = c .before .before .before .before .before .before .before .before .before .args in
     natAbs (added (a .kind) (a .mode) (a .from) (c .before .before .entry .given .0 .0)) ≤ 218
 added-small c =
-    let at-before = c .before .before .before .before .before .before .before .before in
-    let a = at-before .before in
+    let a = c .before .before .before .before .before .before .before .before .before in
     added-abs _ _ _ _ (entry-small (c .before)) (byte-abs _ (a .fits .from))
 
 wide : (c : tie.After-added) → let a = c .before .before .before .before .before .before .before .before .before .args in

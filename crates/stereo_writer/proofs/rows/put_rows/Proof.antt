@@ -60,8 +60,7 @@ loop-less c = search needs
 loop-again : tie.Need-loop-again Inv-loop μ-loop
 loop-again c =
     let at-put-row = c .before .before .before in
-    let at-before = at-put-row .before .before .before .before in
-    let l = at-before .before in
+    let l = at-put-row .before .before .before .before .before in
     let a = l .before .before .before .before .before .args in
     let n = l .loop .inv .2 in (
       omega arith,

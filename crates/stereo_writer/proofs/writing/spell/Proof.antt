@@ -45,9 +45,8 @@ is-read-back-requires c κs =
     let at-put-contents = c .before .before .before .before .before in
     let at-lens = at-put-contents .before .before .before .before in
     let at-codes = at-lens .before in
-    let at-before = at-codes .before in
     let p = at-put-contents .put-contents .ensures in
-    let a = at-before .before in
+    let a = at-codes .before .before in
     let l = wrote-length p ∙ ap length (a .pre) ∙ length-replicate {A = ℕ} 1536 0 in
     (omega (arith, p .ends, p .short, l), (at-codes .codes .ensures, at-lens .lens .ensures))
 
@@ -57,9 +56,8 @@ same-length c = search needs
 returns : tie.Need-returns
 returns c =
     let at-put-contents = c .before .before .before .before .before .before in
-    let at-before = at-put-contents .before .before .before .before .before .before in
     let p = at-put-contents .put-contents .ensures in
-    let a = at-before .before in
+    let a = at-put-contents .before .before .before .before .before .before .before in
     let h = p .holds ∙ ap (λ (l : List ℕ). putAll l 0 (spelling (a .args .state) (a .args .contents))) (a .pre) in
     let r = at-put-contents .put-contents .result in
     let n : r ≡ total (spelling (a .args .state) (a .args .contents)) = omega (arith, p .ends) in
