@@ -14,7 +14,8 @@ use Rattle.bits.specs.Field.{field}
 use Rattle.bits.specs.Loop.{counted, more, listed}
 use Rattle.bits.specs.Places.{oneField}
 use Rattle.bits.specs.Inside.{inside, Fill, leftOver}
-use Rattle.bits.specs.Pieces.{Piece, piece, total, Holds}
+use Rattle.bits.specs.Pieces.{Piece, piece, total}
+use Rattle.bits.proofs.Holds.{Holds}
 use Rattle.bits.specs.Spelled.{spellEach, spellFill}
 use Rattle.bits.proofs.FieldLaws.{is-field}
 use Rattle.bits.proofs.InsideLaws.{inside-there}

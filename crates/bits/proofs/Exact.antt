@@ -11,7 +11,8 @@ use lib.ListN.{length, replicate}
 use Rattle.bits.specs.Bits.{bitsFrom, bitAt}
 use Rattle.bits.specs.Reader.{Answer, got, refused, Reader}
 use Rattle.bits.specs.Payload.{whole}
-use Rattle.bits.specs.Pieces.{Piece, total, Holds}
+use Rattle.bits.specs.Pieces.{Piece, total}
+use Rattle.bits.proofs.Holds.{Holds}
 use Rattle.bits.specs.Packed.{putAll, packed, bytesFor}
 use Rattle.bits.specs.Writable.{matches, writable}
 use Rattle.bits.proofs.BitLaws.{Same, bitAt-lt}

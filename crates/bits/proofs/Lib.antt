@@ -8,6 +8,7 @@ pub mod LoopLaws
 pub mod PlacesLaws
 pub mod InsideLaws
 pub mod PayloadLaws
+pub mod Holds
 pub mod Spelt
 pub mod Back
 pub mod PutLaws

@@ -10,7 +10,8 @@ use native.Mathlib.Decide.{decLt, ℕ-discrete}
 use lib.ListN.{length, getD, take, replicate, length-replicate, getD-replicate, List·getD-eq-default, replicate-append-replicate}
 use lib.Seq.{getD-set-same, getD-set-other, set-out, ext-getD, take-at}
 use Rattle.bits.specs.Bits.{bitAt}
-use Rattle.bits.specs.Pieces.{Piece, total, Holds}
+use Rattle.bits.specs.Pieces.{Piece, total}
+use Rattle.bits.proofs.Holds.{Holds}
 use Rattle.bits.specs.Packed.{replaced, setBit, put, putAll, packed, bytesFor}
 use Rattle.bits.proofs.BitLaws.{bitsFrom-same}
 use Rattle.bits.proofs.FourBytes.{byte-is}

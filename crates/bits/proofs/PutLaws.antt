@@ -14,7 +14,8 @@ use lib.ListN.{length, getD, length-set, List·getD-append}
 use lib.Seq.{set-append-left, getD-set-same, getD-set-other, set-out}
 use Rattle.bits.specs.Bits.{bitsFrom, bitAt}
 use Rattle.bits.proofs.BitLaws.{bitsFrom-lt, bitsFrom-same}
-use Rattle.bits.specs.Pieces.{Piece, total, Holds}
+use Rattle.bits.specs.Pieces.{Piece, total}
+use Rattle.bits.proofs.Holds.{Holds}
 use Rattle.bits.specs.Packed.{replaced, setBit, put, putAll}
 
 replaced-is : (x k b : ℕ) → replaced x k b ≡ (x / 2 ^ k / 2 * 2 + b) * 2 ^ k + x % 2 ^ k

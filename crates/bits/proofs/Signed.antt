@@ -71,3 +71,7 @@ module _ (w : Width) where
 
     pub neg-is : toZ w (ofZ w (pos 0 -ℤ toZ w (ofZ w a))) ≡ negℤ a
     neg-is = rw (toZ-ofZ w a fa, +ℤ-idl (negℤ a)) (toZ-ofZ w (negℤ a) (fits m (rw abs-neg h) k))
+
+-- a value of one width, by way of another that holds it
+pub widened : (v w : Width) (k : ℕ) (x : ℤ) → SFits v x → natAbs x ≤ k → k < 2 ^ hbits w → toZ w (ofZ w (toZ v (ofZ v x))) ≡ x
+widened v w k x f h l = rw (toZ-ofZ v x f) (thru w k h l)

@@ -5,7 +5,7 @@ use mathlib.Core.Path.{_≡_, sym, _∙_, ap}
 use mathlib.Core.List.{List}
 use Rattle.bits.specs.Reader.{Answer, got}
 use Rattle.bits.specs.Field.{field}
-use Rattle.bits.specs.Answers.{fieldAnswer, endedAnswer}
+use Rattle.bits.specs.InnerAnswers.{fieldAnswer, endedAnswer}
 use Rattle.bits.specs.declared.Field.{Field}
 use Rattle.bits.specs.declared.Ended.{Ended}
 use Rattle.bits.proofs.BitLaws.{bitsFrom-lt}

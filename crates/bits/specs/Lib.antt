@@ -10,6 +10,6 @@ pub mod Pieces
 pub mod Spelled
 pub mod Packed
 pub mod Writable
-pub mod Answers
+pub mod InnerAnswers
 pub mod Bytes
 pub mod Calls

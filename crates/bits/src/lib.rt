@@ -6,7 +6,7 @@ ghost use Rattle.bits.specs.Bits.{bitsFrom};
 ghost use lib.Dec.{leb};
 ghost use Rattle.bits.specs.Reader.{tested};
 ghost use Rattle.bits.specs.Field.{field, zeroBit};
-ghost use Rattle.bits.specs.Answers.{fieldAnswer, passedOn};
+ghost use Rattle.bits.specs.InnerAnswers.{fieldAnswer, passedOn};
 
 pub mod bytes;
 pub mod calls;

@@ -10,22 +10,20 @@ use lib.Signed.{mag, ltZ, natAbs-le}
 use mir.Syntax.{w8, w16}
 use mir.Val.{SFits, toZ, ofZ}
 use mir.ValLaws.{toZ-ofZ, toZ-pos}
-use Rattle.bits.proofs.Signed.{fits, thru, abs-add}
+use Rattle.bits.proofs.Signed.{fits, abs-add}
+use Rattle.stereo_indices.proofs.KindLaws.{wide-is}
 
 up : (z : ℤ) → ltZ z (pos 0) ≡ true → mag z < 128 → z +ℤ pos 256 ≡ pos (ofZ w8 z)
 up (pos n) e h = let k : n < 0 = ltb-true n 0 e in absurd (omega arith)
 up (negsuc n) e h = rw (le-ltb 256 (suc n) (omega arith))
 
-wide : (x : ℤ) → SFits w8 x → toZ w16 (ofZ w16 (toZ w8 (ofZ w8 x))) ≡ x
-wide x f = rw (toZ-ofZ w8 x f) (thru w16 128 (natAbs-le x (f .sfits)) (omega arith))
-
 pub raised-fits : (x : ℤ) → SFits w8 x → SFits w16 (toZ w16 (ofZ w16 (toZ w8 (ofZ w8 x))) +ℤ pos 256)
-raised-fits x f = rw (wide x f) (fits 384 (abs-add x (pos 256) 128 256 (natAbs-le x (f .sfits)) (omega arith)) (omega arith))
+raised-fits x f = rw (wide-is x f) (fits 384 (abs-add x (pos 256) 128 256 (natAbs-le x (f .sfits)) (omega arith)) (omega arith))
 
 -- a negative number and 256
 pub raised : (x : ℤ) → SFits w8 x → ltZ x (pos 0) ≡ true
     → toZ w16 (ofZ w16 (toZ w16 (ofZ w16 (toZ w8 (ofZ w8 x))) +ℤ pos 256)) ≡ pos (ofZ w8 x)
-raised x f e = toZ-ofZ w16 _ (raised-fits x f) ∙ rw (wide x f) (up x e (f .sfits))
+raised x f e = toZ-ofZ w16 _ (raised-fits x f) ∙ rw (wide-is x f) (up x e (f .sfits))
 
 -- a number that is not below 0 is its byte
 pub plain : (x : ℤ) → ltZ x (pos 0) ≡ false → x ≡ pos (ofZ w8 x)

@@ -6,7 +6,7 @@ use Rattle.bits.specs.Places.{oneField, here}
 use Rattle.bits.specs.Payload.{ended, whole}
 use Rattle.words.specs.Words.{fits, cutOff, scan, word}
 use Rattle.words.specs.Escape.{ones, magnitude, escape}
-use Rattle.tables.specs.Words.{allCodes, allLens}
+use Rattle.tables.specs.GeneratedWords.{allCodes, allLens}
 use Rattle.channel_lines.specs.Bands.{long34, short34, long67, short67, bands, bandCount, firstLine, bandWidth}
 use Rattle.channel_lines.specs.Grouping.{groupsFrom, groupsAfter, groupsOf}
 use Rattle.channel_lines.specs.Tuple.{spectral, dim, base, offset, digit, signed, value, escaped, tuple}

@@ -8,7 +8,7 @@ ghost use Rattle.tables.specs.Tables.{Tables};
 ghost use Rattle.channel_lines.specs.Bands.{bands, bandCount, allEdges};
 ghost use Rattle.channel_side.specs.Answers.{windowOf};
 ghost use Rattle.channel.specs.Answers.{headAnswer, SoundHead, openRefusal, HoldsLines, HoldsStream};
-ghost use Rattle.bits.specs.Answers.{endedAnswer};
+ghost use Rattle.bits.specs.InnerAnswers.{endedAnswer};
 ghost use Rattle.bits.specs.Payload.{whole};
 ghost use Rattle.channel_side.specs.Factors.{scaleFactors};
 ghost use Rattle.channel.specs.Stream.{headOf, unpulsed, codedOf, stream};

@@ -19,7 +19,7 @@ use Rattle.bits.specs.Field.{field}
 use Rattle.bits.specs.Loop.{counted}
 use Rattle.words.specs.Escape.{escape}
 use Rattle.tables.specs.Tables.{wordOf}
-use Rattle.tables.specs.Names.{tableAt}
+use Rattle.tables.specs.GeneratedNames.{tableAt}
 use Rattle.words.proofs.EscapeLaws.{escape-spelt}
 use Rattle.channel_lines.specs.Tuple.{spectral, dim, base, offset, digit, signed, value, escaped, tuple}
 

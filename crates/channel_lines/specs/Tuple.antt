@@ -10,7 +10,7 @@ use Rattle.bits.specs.Field.{field}
 use Rattle.bits.specs.Loop.{counted}
 use Rattle.words.specs.Escape.{escape}
 use Rattle.tables.specs.Tables.{wordOf}
-use Rattle.tables.specs.Names.{tableAt}
+use Rattle.tables.specs.GeneratedNames.{tableAt}
 
 -- the entry of a book's word; the books are 1 to 11
 unfoldable pub spectral : ℕ → Reader ℕ

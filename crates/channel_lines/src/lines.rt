@@ -3,7 +3,7 @@ ghost use mathlib.Core.Path.{_≡_};
 ghost use Prim.Native.Nat.{suc, _+_, _*_, _-_, _<_, _≤_};
 ghost use lib.ListN.{length};
 ghost use Rattle.bits.specs.Loop.{counted};
-ghost use Rattle.bits.specs.Answers.{endedAnswer};
+ghost use Rattle.bits.specs.InnerAnswers.{endedAnswer};
 ghost use Rattle.tables.specs.Tables.{Tables};
 ghost use Rattle.channel_lines.specs.Bands.{Rising, top, most};
 ghost use Rattle.channel_lines.specs.Grouping.{groupsOf};

@@ -4,7 +4,7 @@ ghost use Prim.Native.Nat.{_*_, _<_, _≤_};
 ghost use lib.ListN.{length, replicate};
 ghost use lib.IntN.{pos};
 ghost use Rattle.bits.specs.Loop.{counted};
-ghost use Rattle.bits.specs.Answers.{fieldAnswer, endedAnswer};
+ghost use Rattle.bits.specs.InnerAnswers.{fieldAnswer, endedAnswer};
 ghost use Rattle.tables.specs.Tables.{Tables};
 ghost use Rattle.channel_lines.specs.Tuple.{spectral, dim, base, offset, digit, signed, value, escaped, tuple};
 use bits::Ended;
@@ -16,18 +16,18 @@ fn read_entry(s: &[u8], at: usize, end: usize, codes: &[u32], lens: &[u8], book:
     ensures { λ r. ⌜ fieldAnswer r ≡ spectral book (now (s .entry)) at end ⌝ }
 {
     match book {
-        0 => tables::readers::scale_factor_word(s, at, end, codes, lens),
-        1 => tables::readers::book_1_word(s, at, end, codes, lens),
-        2 => tables::readers::book_2_word(s, at, end, codes, lens),
-        3 => tables::readers::book_3_word(s, at, end, codes, lens),
-        4 => tables::readers::book_4_word(s, at, end, codes, lens),
-        5 => tables::readers::book_5_word(s, at, end, codes, lens),
-        6 => tables::readers::book_6_word(s, at, end, codes, lens),
-        7 => tables::readers::book_7_word(s, at, end, codes, lens),
-        8 => tables::readers::book_8_word(s, at, end, codes, lens),
-        9 => tables::readers::book_9_word(s, at, end, codes, lens),
-        10 => tables::readers::book_10_word(s, at, end, codes, lens),
-        _ => tables::readers::book_11_word(s, at, end, codes, lens),
+        0 => tables::generated_readers::scale_factor_word(s, at, end, codes, lens),
+        1 => tables::generated_readers::book_1_word(s, at, end, codes, lens),
+        2 => tables::generated_readers::book_2_word(s, at, end, codes, lens),
+        3 => tables::generated_readers::book_3_word(s, at, end, codes, lens),
+        4 => tables::generated_readers::book_4_word(s, at, end, codes, lens),
+        5 => tables::generated_readers::book_5_word(s, at, end, codes, lens),
+        6 => tables::generated_readers::book_6_word(s, at, end, codes, lens),
+        7 => tables::generated_readers::book_7_word(s, at, end, codes, lens),
+        8 => tables::generated_readers::book_8_word(s, at, end, codes, lens),
+        9 => tables::generated_readers::book_9_word(s, at, end, codes, lens),
+        10 => tables::generated_readers::book_10_word(s, at, end, codes, lens),
+        _ => tables::generated_readers::book_11_word(s, at, end, codes, lens),
     }
 }
 

@@ -10,9 +10,9 @@ use Rattle.bits.specs.Reader.{Answer, got, refused, Reader, give, _>>=_}
 use Rattle.bits.specs.Loop.{counted}
 use Rattle.bits.specs.declared.Field.{Field}
 use Rattle.bits.proofs.LoopLaws.{counted-start, counted-more, counted-stop, counted-done}
-use Rattle.tables.specs.Words.{allLens}
+use Rattle.tables.specs.GeneratedWords.{allLens}
 use Rattle.tables.specs.Tables.{wordOf, lensOf}
-use Rattle.tables.specs.Names.{scaleFactor}
+use Rattle.tables.specs.GeneratedNames.{scaleFactor}
 use Rattle.tables.proofs.Rules.{spelt-at}
 use Rattle.channel_side.specs.Factors.{Factors, factor, bandFactor, firstFactors}
 use Rattle.channel_side.specs.Answers.{factorAnswer}

@@ -13,7 +13,7 @@ use Rattle.bits.proofs.FieldLaws.{field-lawful, zeroBit-lawful}
 use Rattle.bits.proofs.LoopLaws.{counted-lawful}
 use Rattle.bits.proofs.PlacesLaws.{here-lawful}
 use Rattle.tables.specs.Tables.{wordOf}
-use Rattle.tables.specs.Names.{scaleFactor}
+use Rattle.tables.specs.GeneratedNames.{scaleFactor}
 use Rattle.tables.proofs.Rules.{lawful-at}
 use Rattle.channel_side.specs.Window.{Window, maxSfbOf, groupingOf, window}
 use Rattle.channel_side.specs.Sections.{Covered, increments, sectionLength, section, nextSection, groupSections, groupBooks, sections}

@@ -5,7 +5,7 @@ use lib.ListN.{getD}
 use mathlib.Core.Path.{_≡_}
 use mathlib.Core.List.{List}
 use Rattle.bits.specs.Reader.{Answer, got, refused, Reader}
-use Rattle.bits.specs.Answers.{endedAnswer}
+use Rattle.bits.specs.InnerAnswers.{endedAnswer}
 use Rattle.bits.specs.declared.Ended.{Ended}
 use Rattle.channel_lines.specs.Bands.{bandCount}
 use Rattle.bits.specs.declared.Field.{Field}

@@ -7,7 +7,7 @@ use lib.ListN.{length, getD, set, replicate}
 use Rattle.bits.specs.Reader.{Reader, give, pick, expecting, _>>=_}
 use Rattle.bits.specs.Loop.{counted}
 use Rattle.tables.specs.Tables.{wordOf}
-use Rattle.tables.specs.Names.{scaleFactor}
+use Rattle.tables.specs.GeneratedNames.{scaleFactor}
 use Rattle.channel_side.specs.Window.{Window, groups}
 
 -- the last scale factor, and all so far

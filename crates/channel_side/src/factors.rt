@@ -2,7 +2,7 @@
 ghost use mathlib.Core.Path.{_≡_};
 ghost use Prim.Native.Nat.{_*_, _≤_, _<_};
 ghost use lib.ListN.{length};
-ghost use Rattle.bits.specs.Answers.{endedAnswer};
+ghost use Rattle.bits.specs.InnerAnswers.{endedAnswer};
 ghost use Rattle.tables.specs.Tables.{Tables};
 ghost use Rattle.channel_side.specs.Answers.{factorAnswer, Small};
 ghost use Rattle.channel_side.specs.Factors.{bandFactor, firstFactors};
@@ -27,7 +27,7 @@ fn read_factor(
     if books[i] == 0 {
         return Field::Got(last, at);
     }
-    let f = tables::readers::scale_factor_word(s, at, end, codes, lens);
+    let f = tables::generated_readers::scale_factor_word(s, at, end, codes, lens);
     let Field::Got(entry, next) = f else {
         return f;
     };

@@ -4,7 +4,7 @@ ghost use Prim.Native.Nat.{_+_, _*_, _≤_, _<_};
 ghost use mathlib.Core.Bool.{false};
 ghost use lib.ListN.{length, getD, replicate};
 ghost use lib.IntN.{pos};
-ghost use Rattle.bits.specs.Answers.{fieldAnswer, endedAnswer};
+ghost use Rattle.bits.specs.InnerAnswers.{fieldAnswer, endedAnswer};
 ghost use Rattle.channel_lines.specs.Bands.{bands};
 ghost use Rattle.channel_side.specs.Answers.{pulseAnswer, pulsesAnswer, Low, Few, Always};
 ghost use Rattle.channel_side.specs.Pulses.{pulse, eachPulse, startBand, pulseData, pulses, pulsed, changed, applyPulses};

@@ -2,7 +2,7 @@
 ghost use mathlib.Core.Path.{_≡_};
 ghost use Prim.Native.Nat.{_+_, _*_, _≤_};
 ghost use lib.ListN.{length};
-ghost use Rattle.bits.specs.Answers.{fieldAnswer, endedAnswer};
+ghost use Rattle.bits.specs.InnerAnswers.{fieldAnswer, endedAnswer};
 ghost use Rattle.channel_lines.specs.Bands.{most};
 ghost use Rattle.channel_lines.specs.Grouping.{groupsOf};
 ghost use Rattle.channel_side.specs.Sections.{sectionLength, fill, groupSections, groupBooks, widthOf};

@@ -2,7 +2,7 @@
 ghost use mathlib.Core.Path.{_≡_};
 ghost use Prim.Native.Nat.{_*_, _≤_};
 ghost use lib.ListN.{length};
-ghost use Rattle.bits.specs.Answers.{fieldAnswer};
+ghost use Rattle.bits.specs.InnerAnswers.{fieldAnswer};
 ghost use Rattle.channel_side.specs.Answers.{windowAnswer, windowRefusal, Sound};
 ghost use Rattle.channel_side.specs.Window.{maxSfbOf, groupingOf, window};
 use bits::Field;

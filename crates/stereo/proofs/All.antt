@@ -6,7 +6,7 @@ use Rattle.bits.specs.Places.{here, refuseAt}
 use Rattle.bits.specs.Inside.{inside, leftOver}
 use Rattle.bits.specs.Payload.{ended, whole}
 use Rattle.words.specs.Words.{fits, cutOff, scan, word}
-use Rattle.tables.specs.Words.{allCodes, allLens}
+use Rattle.tables.specs.GeneratedWords.{allCodes, allLens}
 use Rattle.stereo_indices.specs.Kind.{bands, least, most, within}
 use Rattle.stereo_indices.specs.Difference.{differenceTable, difference, middle, added}
 use Rattle.stereo_indices.specs.Record.{zeros, none, agrees, soundIndex, soundFrom, soundRecord}

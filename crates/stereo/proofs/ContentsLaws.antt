@@ -4,7 +4,7 @@ use Prim.Native.Nat.{ℕ}
 use mathlib.Core.Path.{_≡_}
 use mathlib.Core.List.{List}
 use Rattle.bits.specs.Reader.{got, refused}
-use Rattle.bits.specs.Answers.{endedAnswer}
+use Rattle.bits.specs.InnerAnswers.{endedAnswer}
 use Rattle.bits.specs.declared.Ended.{Ended}
 use Rattle.bits.specs.declared.Ended.the-variants.{At, Refused}
 use Rattle.stereo_indices.specs.Rows.{rows}

@@ -12,7 +12,7 @@ use Rattle.bits.specs.Reader.{got, refused, give, pick}
 use Rattle.bits.specs.Field.{field, zeroBit}
 use Rattle.bits.specs.Places.{here, refuseAt}
 use Rattle.bits.specs.Inside.{inside, leftOver}
-use Rattle.bits.specs.Answers.{fieldAnswer, endedAnswer, passedOn}
+use Rattle.bits.specs.InnerAnswers.{fieldAnswer, endedAnswer, passedOn}
 use Rattle.bits.specs.declared.Field.{Field}
 use Rattle.bits.specs.declared.Field.the-variants.{Got, Refused as Short}
 use Rattle.bits.proofs.Taken.{field-below}

@@ -6,7 +6,7 @@ use mathlib.Core.List.{List, []}
 use Rattle.bits.specs.Reader.{got, refused}
 use Rattle.bits.specs.Field.{field}
 use Rattle.bits.specs.Loop.{counted, more, listed}
-use Rattle.bits.specs.Answers.{endedAnswer}
+use Rattle.bits.specs.InnerAnswers.{endedAnswer}
 use Rattle.bits.specs.declared.Ended.{Ended}
 use Rattle.bits.specs.declared.Ended.the-variants.{At, Refused}
 use Rattle.bits.specs.Lists.{padded}

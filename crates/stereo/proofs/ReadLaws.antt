@@ -1,7 +1,7 @@
 -- A field's refusal, passed on as the refusal of what holds it.
 -- Assumes nothing.
 use mathlib.Core.Path.{_≡_, _∙_, ap}
-use Rattle.bits.specs.Answers.{endedAnswer, passedOn}
+use Rattle.bits.specs.InnerAnswers.{endedAnswer, passedOn}
 use Rattle.bits.specs.declared.Field.{Field}
 use Rattle.bits.specs.declared.Ended.{Ended}
 

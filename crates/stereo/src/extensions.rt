@@ -6,7 +6,7 @@ ghost use lib.ListN.{length, replicate};
 ghost use Rattle.bits.specs.Reader.{refused, pick};
 ghost use Rattle.bits.specs.Bits.{bitsFrom};
 ghost use Rattle.bits.specs.Field.{zeroBit};
-ghost use Rattle.bits.specs.Answers.{fieldAnswer, endedAnswer, passedOn};
+ghost use Rattle.bits.specs.InnerAnswers.{fieldAnswer, endedAnswer, passedOn};
 ghost use Rattle.tables.specs.Tables.{Tables};
 ghost use Rattle.stereo_indices.specs.Record.{recordOf};
 ghost use Rattle.stereo.specs.Extension.{noPhases, noBody, noPart, noExtension, phasesIn, phasesOf, phases, hasMode, phaseFlag, v0};

@@ -2,7 +2,7 @@
 ghost use mathlib.Core.Path.{_≡_};
 ghost use Prim.Native.Nat.{_*_, _≤_, _<_};
 ghost use lib.ListN.{length};
-ghost use Rattle.bits.specs.Answers.{endedAnswer, passedOn};
+ghost use Rattle.bits.specs.InnerAnswers.{endedAnswer, passedOn};
 ghost use Rattle.stereo.specs.Frame.{envelopeCount, noBorders, bordersOf, borders, noFrame, frame};
 use crate::Frame;
 use crate::ReadBorders;

@@ -2,7 +2,7 @@
 ghost use mathlib.Core.Path.{_≡_};
 ghost use Prim.Native.Nat.{_*_, _≤_};
 ghost use lib.ListN.{length};
-ghost use Rattle.bits.specs.Answers.{fieldAnswer, endedAnswer, passedOn};
+ghost use Rattle.bits.specs.InnerAnswers.{fieldAnswer, endedAnswer, passedOn};
 ghost use Rattle.stereo.specs.Header.{noHeader, mode, switch, headerFields, header, flagAfter, modeAfter, setupAfter};
 use crate::Header;
 use crate::ReadHeader;

@@ -2,7 +2,7 @@
 ghost use mathlib.Core.Path.{_≡_};
 ghost use Prim.Native.Nat.{_*_, _≤_};
 ghost use lib.ListN.{length};
-ghost use Rattle.bits.specs.Answers.{endedAnswer};
+ghost use Rattle.bits.specs.InnerAnswers.{endedAnswer};
 ghost use Rattle.tables.specs.Tables.{Tables};
 ghost use Rattle.stereo_indices.specs.Rows.{rows};
 ghost use Rattle.stereo_indices.specs.declared.Kind.the-variants.{Iid, Icc};

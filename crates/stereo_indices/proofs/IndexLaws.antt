@@ -9,7 +9,7 @@ use Rattle.bits.specs.Reader.{Answer, got, refused, give, expecting}
 use Rattle.bits.proofs.Lawful.{split, tested-got, same-value}
 use Rattle.tables.specs.Tables.{Table, wordOf}
 use Rattle.stereo_indices.proofs.KindLaws.{table-is}
-use Rattle.tables.specs.Names.{tableAt}
+use Rattle.tables.specs.GeneratedNames.{tableAt}
 use Rattle.bits.specs.Loop.{counted, more, listed}
 use Rattle.stereo_indices.specs.Kind.{bands, inRange}
 use Rattle.stereo_indices.specs.Difference.{difference, added}

@@ -13,14 +13,14 @@ use lib.IntN.{ℤ, pos, negsuc, negℤ, _+ℤ_, _-ℤ_, natAbs}
 use lib.Signed.{ltZ, nonNeg}
 use mir.Syntax.{Width, w8, w16}
 use mir.Val.{SFits, hbits, toZ, ofZ}
-use mir.ValLaws.{toZ-ofZ, toZ-pos}
+use mir.ValLaws.{toZ-pos}
 use Rattle.bits.specs.Reader.{got, pick}
 use Rattle.bits.proofs.Bools.{and-both, and-left, and-right, true-false}
-use Rattle.bits.proofs.Signed.{abs-add, abs-neg, thru}
+use Rattle.bits.proofs.Signed.{abs-add, abs-neg, thru, widened}
 use Rattle.tables.specs.Tables.{Table, codesOf, lensOf, wordOf}
-use Rattle.tables.specs.Names.{tables, noTable, tableAt, levelDefaultFrequency, levelDefaultTime, levelFineFrequency, levelFineTime}
-use Rattle.tables.specs.Names.{coherenceFrequency, coherenceTime, phaseFrequency, phaseTime, overallPhaseFrequency, overallPhaseTime}
-use Rattle.tables.specs.Words.{allCodes}
+use Rattle.tables.specs.GeneratedNames.{tables, noTable, tableAt, levelDefaultFrequency, levelDefaultTime, levelFineFrequency, levelFineTime}
+use Rattle.tables.specs.GeneratedNames.{coherenceFrequency, coherenceTime, phaseFrequency, phaseTime, overallPhaseFrequency, overallPhaseTime}
+use Rattle.tables.specs.GeneratedWords.{allCodes}
 use Rattle.words.proofs.WordLaws.{word-fit}
 use Rattle.stereo_indices.specs.Kind.{isPhase, fine, byMode, bands, byKind, least, most, within, inRange}
 use Rattle.stereo_indices.specs.Difference.{differenceTable, middle, added}
@@ -65,7 +65,7 @@ through w k e h l = ap (λ (z : ℤ). toZ w (ofZ w z)) e ∙ thru w k h l
 
 -- a signed byte, widened
 pub wide-is : (x : ℤ) → SFits w8 x → toZ w16 (ofZ w16 (toZ w8 (ofZ w8 x))) ≡ x
-wide-is x f = through w16 128 (toZ-ofZ w8 x f) (byte-abs x f) (omega arith)
+wide-is x f = widened w8 w16 128 x f (byte-abs x f) (omega arith)
 
 -- the negation of a number below 0
 pub neg-parts : (x : ℤ) → ltZ x (pos 0) ≡ true → T (nonNeg (pos 0 -ℤ x)) × (natAbs (pos 0 -ℤ x) ≡ natAbs x)

@@ -4,9 +4,9 @@ use lib.Dec.{eqb}
 use lib.IntN.{ℤ, pos, _+ℤ_, _-ℤ_, natAbs}
 use Rattle.bits.specs.Reader.{Reader, pick}
 use Rattle.tables.specs.Tables.{Table, wordOf}
-use Rattle.tables.specs.Names.{levelDefaultFrequency, levelDefaultTime, levelFineFrequency, levelFineTime, coherenceFrequency}
-use Rattle.tables.specs.Names.{coherenceTime}
-use Rattle.tables.specs.Names.{phaseFrequency, phaseTime, overallPhaseFrequency, overallPhaseTime}
+use Rattle.tables.specs.GeneratedNames.{levelDefaultFrequency, levelDefaultTime, levelFineFrequency, levelFineTime, coherenceFrequency}
+use Rattle.tables.specs.GeneratedNames.{coherenceTime}
+use Rattle.tables.specs.GeneratedNames.{phaseFrequency, phaseTime, overallPhaseFrequency, overallPhaseTime}
 use Rattle.stereo_indices.specs.Kind.{isPhase, fine, byKind}
 use Rattle.stereo_indices.specs.declared.Kind.{Kind}
 use Rattle.stereo_indices.specs.declared.Kind.the-variants.{Iid, Icc, Ipd, Opd}

@@ -4,7 +4,7 @@ ghost use Prim.Native.Nat.{_*_, _≤_};
 ghost use lib.Dec.{eqb};
 ghost use lib.ListN.{length};
 ghost use Rattle.bits.specs.Reader.{pick};
-ghost use Rattle.bits.specs.Answers.{endedAnswer};
+ghost use Rattle.bits.specs.InnerAnswers.{endedAnswer};
 ghost use Rattle.tables.specs.Tables.{Tables};
 ghost use Rattle.stereo_indices.specs.Indices.{indices};
 use crate::Index;

@@ -3,9 +3,9 @@ ghost use mathlib.Core.Path.{_≡_};
 ghost use Prim.Native.Nat.{_*_, _≤_};
 ghost use lib.ListN.{length};
 ghost use lib.IntN.{pos, natAbs};
-ghost use Rattle.bits.specs.Answers.{fieldAnswer};
+ghost use Rattle.bits.specs.InnerAnswers.{fieldAnswer};
 ghost use Rattle.tables.specs.Tables.{Tables, wordOf};
-ghost use Rattle.tables.specs.Names.{tableAt};
+ghost use Rattle.tables.specs.GeneratedNames.{tableAt};
 ghost use Rattle.stereo_indices.specs.Difference.{middle, added};
 ghost use Rattle.stereo_indices.specs.Indices.{indexFrom};
 ghost use Rattle.stereo_indices.specs.InnerAnswers.{indexAnswer};
@@ -49,16 +49,16 @@ fn table_word(s: &[u8], at: usize, end: usize, table: usize, codes: &[u32], lens
     ensures { λ r. ⌜ fieldAnswer r ≡ wordOf (tableAt table) (now (s .entry)) at end ⌝ }
 {
     match table {
-        12 => tables::readers::level_default_frequency_word(s, at, end, codes, lens),
-        13 => tables::readers::level_default_time_word(s, at, end, codes, lens),
-        14 => tables::readers::level_fine_frequency_word(s, at, end, codes, lens),
-        15 => tables::readers::level_fine_time_word(s, at, end, codes, lens),
-        16 => tables::readers::coherence_frequency_word(s, at, end, codes, lens),
-        17 => tables::readers::coherence_time_word(s, at, end, codes, lens),
-        18 => tables::readers::phase_frequency_word(s, at, end, codes, lens),
-        19 => tables::readers::phase_time_word(s, at, end, codes, lens),
-        20 => tables::readers::overall_phase_frequency_word(s, at, end, codes, lens),
-        _ => tables::readers::overall_phase_time_word(s, at, end, codes, lens),
+        12 => tables::generated_readers::level_default_frequency_word(s, at, end, codes, lens),
+        13 => tables::generated_readers::level_default_time_word(s, at, end, codes, lens),
+        14 => tables::generated_readers::level_fine_frequency_word(s, at, end, codes, lens),
+        15 => tables::generated_readers::level_fine_time_word(s, at, end, codes, lens),
+        16 => tables::generated_readers::coherence_frequency_word(s, at, end, codes, lens),
+        17 => tables::generated_readers::coherence_time_word(s, at, end, codes, lens),
+        18 => tables::generated_readers::phase_frequency_word(s, at, end, codes, lens),
+        19 => tables::generated_readers::phase_time_word(s, at, end, codes, lens),
+        20 => tables::generated_readers::overall_phase_frequency_word(s, at, end, codes, lens),
+        _ => tables::generated_readers::overall_phase_time_word(s, at, end, codes, lens),
     }
 }
 

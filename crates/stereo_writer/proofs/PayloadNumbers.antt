@@ -18,7 +18,7 @@ use Rattle.bits.proofs.Numbered.{bind-numbered, expecting-numbered, pick-number
 use Rattle.bits.proofs.Numbered.{whole-numbered}
 use Rattle.words.proofs.WordNumbered.{word-numbered}
 use Rattle.tables.specs.Tables.{codesOf, lensOf, wordOf}
-use Rattle.tables.specs.Names.{tableAt}
+use Rattle.tables.specs.GeneratedNames.{tableAt}
 use Rattle.tables.proofs.Rules.{ruled-at}
 use Rattle.stereo_indices.specs.Difference.{difference}
 use Rattle.stereo_indices.specs.Indices.{indexFrom, index, indices}

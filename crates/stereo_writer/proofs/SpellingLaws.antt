@@ -20,8 +20,8 @@ use Rattle.bits.proofs.Spelt.{Spelt, told, respelt, give-spelt, bind-spelt, fie
 use Rattle.bits.proofs.Spelt.{here-spelt, refuseAt-spelt, leftOver-spelt, inside-spelt, Filled}
 use Rattle.bits.specs.Spelled.{spellEach, spellFill}
 use Rattle.tables.specs.Tables.{codesOf, lensOf}
-use Rattle.tables.specs.Names.{phaseFrequency, phaseTime, overallPhaseFrequency, overallPhaseTime}
-use Rattle.tables.specs.Words.{allCodes}
+use Rattle.tables.specs.GeneratedNames.{phaseFrequency, phaseTime, overallPhaseFrequency, overallPhaseTime}
+use Rattle.tables.specs.GeneratedWords.{allCodes}
 use Rattle.words.proofs.WordLaws.{word-spelt}
 use Rattle.stereo_indices.specs.Kind.{isPhase, bands}
 use Rattle.stereo_indices.specs.Difference.{differenceTable, difference, middle, added}

@@ -6,7 +6,7 @@ ghost use mathlib.Core.List.{[]};
 ghost use lib.ListN.{take, getD};
 ghost use Rattle.bits.specs.Spelled.{spellEach};
 ghost use Rattle.tables.specs.Tables.{Tables, spellWord};
-ghost use Rattle.tables.specs.Names.{tableAt};
+ghost use Rattle.tables.specs.GeneratedNames.{tableAt};
 ghost use Rattle.stereo_indices.specs.Kind.{bands};
 ghost use Rattle.stereo_indices.specs.Indices.{reference};
 ghost use Rattle.stereo_writer.specs.InnerWrote.{Wrote, Room};

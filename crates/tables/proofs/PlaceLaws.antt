@@ -9,9 +9,9 @@ use native.Mathlib.Decide.{decLt}
 use lib.Dec.{T, leb, leb→le}
 use lib.ListN.{getD, List·getD-eq-default}
 use Rattle.bits.specs.Pieces.{piece}
-use Rattle.tables.specs.Words.{allCodes, allLens}
+use Rattle.tables.specs.GeneratedWords.{allCodes, allLens}
 use Rattle.tables.specs.Tables.{Table, codesOf, lensOf, spellWord}
-use Rattle.tables.specs.Names.{tables, noTable, tableAt}
+use Rattle.tables.specs.GeneratedNames.{tables, noTable, tableAt}
 use Rattle.tables.proofs.RunLaws.{codes-count, lens-count, run-length, run-at, all-at, narrow}
 use Rattle.tables.proofs.Rules.{every, every-at}
 

@@ -18,9 +18,9 @@ use Rattle.bits.proofs.Back.{Back}
 use Rattle.words.specs.Table.{prefixFree}
 use Rattle.words.proofs.WordLaws.{word-lawful, word-spelt, word-back}
 use Rattle.words.proofs.CompleteLaws.{complete-parts, complete-never-11}
-use Rattle.tables.specs.Words.{allCodes, allLens}
+use Rattle.tables.specs.GeneratedWords.{allCodes, allLens}
 use Rattle.tables.specs.Tables.{Table, codesOf, lensOf, wordOf, spellWord, ruled}
-use Rattle.tables.specs.Names.{tables, noTable, tableAt}
+use Rattle.tables.specs.GeneratedNames.{tables, noTable, tableAt}
 
 -- a test holds of every table of a list
 abbrev pub every : (Table → Bool) → List Table → Bool

@@ -11,7 +11,7 @@ use lib.ListN.{length, getD, length-take, length-drop}
 use lib.Seq.{getD-take, getD-drop}
 use Rattle.bits.proofs.Bools.{and-left, and-right}
 use Rattle.words.specs.InnerTable.{Usable}
-use Rattle.tables.specs.Words.{allCodes, allLens}
+use Rattle.tables.specs.GeneratedWords.{allCodes, allLens}
 use Rattle.tables.specs.Tables.{run}
 
 pub codes-count : length allCodes ≡ 1604

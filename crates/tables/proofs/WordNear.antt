@@ -14,7 +14,7 @@ use Rattle.words.specs.Words.{fits, cutOff, scan, word}
 use Rattle.words.specs.Table.{sized}
 use Rattle.words.proofs.CompleteLaws.{complete-parts}
 use Rattle.tables.specs.Tables.{codesOf, lensOf, wordOf}
-use Rattle.tables.specs.Names.{tableAt}
+use Rattle.tables.specs.GeneratedNames.{tableAt}
 use Rattle.tables.proofs.Rules.{ruled-at, lawful-at}
 use Rattle.bits.proofs.NearLaws.{Near, lawful-near}
 

@@ -1,3 +1,3 @@
-pub mod Words
+pub mod GeneratedWords
 pub mod Tables
-pub mod Names
+pub mod GeneratedNames

@@ -8,7 +8,7 @@ use Rattle.bits.specs.Reader.{Reader}
 use Rattle.bits.specs.Pieces.{Piece, piece}
 use Rattle.words.specs.Words.{word}
 use Rattle.words.specs.Table.{complete}
-use Rattle.tables.specs.Words.{allCodes, allLens}
+use Rattle.tables.specs.GeneratedWords.{allCodes, allLens}
 
 pub record Table : Type 0 where
   pub first : ℕ

@@ -2,16 +2,16 @@
 ghost use mathlib.Core.Path.{_≡_};
 ghost use Prim.Native.Nat.{_+_, _*_, _≤_};
 ghost use lib.ListN.{length, getD};
-ghost use Rattle.bits.specs.Answers.{fieldAnswer};
-ghost use Rattle.tables.specs.Words.{allCodes, allLens};
+ghost use Rattle.bits.specs.InnerAnswers.{fieldAnswer};
+ghost use Rattle.tables.specs.GeneratedWords.{allCodes, allLens};
 ghost use Rattle.tables.specs.Tables.{Tables, table, wordOf, spellWord};
-ghost use Rattle.tables.specs.Names.{tableAt};
+ghost use Rattle.tables.specs.GeneratedNames.{tableAt};
 ghost use Rattle.bits.specs.Pieces.{piece};
 ghost use mathlib.Core.List.{[], _∷_};
 use bits::Field;
 
-mod constants;
-pub mod readers;
+pub mod generated_readers;
+mod generated_words;
 
 // A word, as a number of so many bits.
 pub struct Word {
@@ -23,14 +23,14 @@ pub struct Word {
 pub fn codes() -> [u32; 1604]
     ensures { λ r. ⌜ r ≡ allCodes ⌝ }
 {
-    constants::CODES
+    generated_words::CODES
 }
 
 // The lengths of all words.
 pub fn lens() -> [u8; 1604]
     ensures { λ r. ⌜ r ≡ allLens ⌝ }
 {
-    constants::LENS
+    generated_words::LENS
 }
 
 // The word of a table that stands from an entry on, so many entries of it.
@@ -64,14 +64,14 @@ fn element(xs: &[usize], i: usize) -> usize
 fn first_of(t: usize) -> usize
     ensures { λ r. ⌜ r ≡ tableAt t .first ⌝ }
 {
-    element(&constants::FIRSTS, t)
+    element(&generated_words::FIRSTS, t)
 }
 
 // How many entries a table has, by its number.
 fn count_of(t: usize) -> usize
     ensures { λ r. ⌜ r ≡ tableAt t .count ⌝ }
 {
-    element(&constants::COUNTS, t)
+    element(&generated_words::COUNTS, t)
 }
 
 // The word of an entry of a table, by the table's number; an entry that there is not has no bits.

@@ -3,7 +3,7 @@ ghost use mathlib.Core.Path.{_≡_};
 ghost use Prim.Native.Nat.{_*_, _≤_, _-_, min};
 ghost use lib.ListN.{length};
 ghost use Rattle.bits.specs.Bits.{bitsFrom};
-ghost use Rattle.bits.specs.Answers.{fieldAnswer};
+ghost use Rattle.bits.specs.InnerAnswers.{fieldAnswer};
 ghost use Rattle.words.specs.InnerComparison.{compared};
 ghost use Rattle.words.specs.Words.{word};
 ghost use Rattle.words.specs.InnerTable.{Usable};

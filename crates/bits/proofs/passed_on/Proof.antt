@@ -1,5 +1,5 @@
 -- The answer is taken apart and put together again, number and place unchanged.
-use Rattle.bits.specs.Answers.{passedOn}
+use Rattle.bits.specs.InnerAnswers.{passedOn}
 use mathlib.Core.Path.{sym, ap}
 use borrow.Author.Needs.{needs}
 use Rattle.bits.proofs.passed_on.Statement.{statement}

@@ -1,6 +1,6 @@
 -- The constant and the definition's list compute to the same numbers.
 use mathlib.Core.Path.{refl}
-use Rattle.tables.specs.Words.{allCodes}
+use Rattle.tables.specs.GeneratedWords.{allCodes}
 use Rattle.tables.proofs.codes.Statement.{statement}
 use Rattle.tables.proofs.codes.Tie as tie
 

@@ -1,7 +1,7 @@
 -- The constant holds the first entry of each table.
 use mathlib.Core.Path.{refl, _∙_}
 use Rattle.tables.specs.Tables.{Table}
-use Rattle.tables.specs.Names.{tables}
+use Rattle.tables.specs.GeneratedNames.{tables}
 use Rattle.tables.proofs.PlaceLaws.{each-at}
 use borrow.Author.Needs.{needs}
 use Rattle.tables.proofs.first_of.Statement.{statement}

@@ -1,6 +1,6 @@
 -- The constant and the definition's list compute to the same numbers.
 use mathlib.Core.Path.{refl}
-use Rattle.tables.specs.Words.{allLens}
+use Rattle.tables.specs.GeneratedWords.{allLens}
 use Rattle.tables.proofs.lens.Statement.{statement}
 use Rattle.tables.proofs.lens.Tie as tie
 

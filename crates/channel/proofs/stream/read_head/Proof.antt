@@ -1,6 +1,6 @@
 use mathlib.Core.Path.{sym, _∙_, ap}
 use native.Mathlib.Omega.{arith}
-use Rattle.bits.specs.Answers.{passedOn}
+use Rattle.bits.specs.InnerAnswers.{passedOn}
 use Rattle.bits.proofs.Taken.{answered, field-below}
 use Rattle.channel.specs.Answers.{openRefusal}
 use Rattle.channel.proofs.StreamLaws.{window-is, head-cut, head-window, head-got}

@@ -1,5 +1,5 @@
 use mathlib.Core.Path.{_∙_, ap}
-use Rattle.bits.specs.Answers.{passedOn}
+use Rattle.bits.specs.InnerAnswers.{passedOn}
 use Rattle.bits.proofs.Taken.{ended-is}
 use Rattle.channel_side.specs.Answers.{windowOf}
 use Rattle.channel.proofs.StreamLaws.{pulses-is, coded-pulses, coded-lines, coded-is}

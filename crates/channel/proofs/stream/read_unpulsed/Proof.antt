@@ -1,7 +1,7 @@
 use mathlib.Core.Path.{sym, _∙_, ap}
 use native.Mathlib.Omega.{arith}
 use lib.Dec.{eqb}
-use Rattle.bits.specs.Answers.{passedOn}
+use Rattle.bits.specs.InnerAnswers.{passedOn}
 use Rattle.bits.proofs.Taken.{answered}
 use Rattle.channel_lines.proofs.BandLaws.{bands-rising, bands-most, bands-some}
 use Rattle.channel_side.specs.Answers.{windowOf}

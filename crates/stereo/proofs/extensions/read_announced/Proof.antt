@@ -3,7 +3,7 @@
 use Prim.Native.Nat.{ℕ, _<_, _≤_, _+_, _*_, _-_}
 use mathlib.Core.Path.{_≡_, _∙_, ap}
 use native.Mathlib.Omega.{arith}
-use Rattle.bits.specs.Answers.{endedAnswer}
+use Rattle.bits.specs.InnerAnswers.{endedAnswer}
 use Rattle.bits.specs.declared.Ended.{Ended}
 use Rattle.stereo.proofs.ExtensionLaws.{announced-none, announced-short, announced-part}
 use borrow.Author.Needs.{needs}

@@ -1,7 +1,7 @@
 -- After the body at most 7 bits are fill, and are kept; more begin another id, which is refused.
 use Rattle.bits.proofs.Taken.{ended-is}
 use mathlib.Core.Path.{_∙_, ap}
-use Rattle.bits.specs.Answers.{endedAnswer}
+use Rattle.bits.specs.InnerAnswers.{endedAnswer}
 use Rattle.bits.specs.declared.Ended.{Ended}
 use Rattle.stereo.proofs.ExtensionLaws.{part-refused, part-another, part-fill}
 use borrow.Author.Needs.{needs}

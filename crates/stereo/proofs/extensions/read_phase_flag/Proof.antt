@@ -1,7 +1,7 @@
 -- The id is judged before the flag is read, and the flag at its own place: each refusal is the definition's.
 use mathlib.Core.Path.{sym, _∙_, ap}
 use borrow.Author.Tests.{eq-eqb, ne-eqb}
-use Rattle.bits.specs.Answers.{fieldAnswer}
+use Rattle.bits.specs.InnerAnswers.{fieldAnswer}
 use Rattle.bits.proofs.Taken.{answered}
 use Rattle.stereo.specs.Extension.{phaseFlag}
 use borrow.Author.Needs.{needs}

@@ -1,7 +1,7 @@
 -- An IPD row and an OPD row, each as its reader answers it; the first refusal stands.
 use Rattle.bits.proofs.Taken.{ended-is}
 use mathlib.Core.Path.{_∙_, ap}
-use Rattle.bits.specs.Answers.{endedAnswer}
+use Rattle.bits.specs.InnerAnswers.{endedAnswer}
 use Rattle.bits.specs.declared.Ended.{Ended}
 use Rattle.stereo.proofs.ExtensionLaws.{phases-refused, phases-rest}
 use borrow.Author.Needs.{needs}

@@ -1,7 +1,7 @@
 -- The flag, the phases and the reserved bit, one after another: the first refusal stands.
 use Rattle.stereo.specs.declared.Body.{Body}
 use mathlib.Core.Path.{_∙_, ap}
-use Rattle.bits.specs.Answers.{endedAnswer}
+use Rattle.bits.specs.InnerAnswers.{endedAnswer}
 use Rattle.bits.specs.declared.Ended.{Ended}
 use Rattle.bits.proofs.Taken.{answered, ended-is}
 use Rattle.stereo.proofs.ReadLaws.{passed}

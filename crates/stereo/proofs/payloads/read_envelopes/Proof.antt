@@ -1,7 +1,7 @@
 -- Levels, coherences and the extension, one after another: the first refusal stands.
 use Rattle.bits.proofs.Taken.{ended-is}
 use mathlib.Core.Path.{_∙_, ap}
-use Rattle.bits.specs.Answers.{endedAnswer}
+use Rattle.bits.specs.InnerAnswers.{endedAnswer}
 use Rattle.bits.specs.declared.Ended.{Ended}
 use Rattle.stereo.proofs.ContentsLaws.{iid-refused, icc-refused, envelopes-rest}
 use borrow.Author.Needs.{needs}

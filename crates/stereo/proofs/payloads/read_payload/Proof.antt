@@ -1,7 +1,7 @@
 -- Header, frame and envelopes, one after another: the first refusal stands, and the set-up is the one after the header.
 use Rattle.bits.proofs.Taken.{ended-is}
 use mathlib.Core.Path.{_∙_, ap}
-use Rattle.bits.specs.Answers.{endedAnswer}
+use Rattle.bits.specs.InnerAnswers.{endedAnswer}
 use Rattle.bits.specs.declared.Ended.{Ended}
 use Rattle.stereo.proofs.ContentsLaws.{header-refused, frame-refused, payload-rest}
 use borrow.Author.Needs.{needs}

@@ -6,7 +6,7 @@ use native.Mathlib.Omega.{arith}
 use borrow.Author.Needs.{needs}
 use lib.ListN.{take}
 use Rattle.bits.specs.Reader.{got, Reader}
-use Rattle.bits.specs.Answers.{endedAnswer}
+use Rattle.bits.specs.InnerAnswers.{endedAnswer}
 use Rattle.bits.specs.Loop.{counted, more}
 use Rattle.bits.specs.declared.Ended.{Ended}
 use Rattle.bits.proofs.LoopLaws.{counted-start, counted-more, counted-stop, counted-done, more-got, more-refused}

@@ -1,4 +1,4 @@
--- What the code's answers mean.
+-- For contracts of inner functions only: what the code's answers mean.
 use Prim.Native.Nat.{ℕ}
 use Rattle.bits.specs.Reader.{Answer, got, refused}
 use Rattle.bits.specs.declared.Field.{Field}

@@ -2,9 +2,9 @@
 ghost use mathlib.Core.Path.{_≡_};
 ghost use Prim.Native.Nat.{_*_, _≤_};
 ghost use lib.ListN.{length};
-ghost use Rattle.bits.specs.Answers.{fieldAnswer};
+ghost use Rattle.bits.specs.InnerAnswers.{fieldAnswer};
 ghost use Rattle.tables.specs.Tables.{Tables, wordOf};
-ghost use Rattle.tables.specs.Names.{scaleFactor, book1, book2, book3, book4, book5, book6, book7, book8, book9, book10, book11, levelDefaultFrequency, levelDefaultTime, levelFineFrequency, levelFineTime, coherenceFrequency, coherenceTime, phaseFrequency, phaseTime, overallPhaseFrequency, overallPhaseTime};
+ghost use Rattle.tables.specs.GeneratedNames.{scaleFactor, book1, book2, book3, book4, book5, book6, book7, book8, book9, book10, book11, levelDefaultFrequency, levelDefaultTime, levelFineFrequency, levelFineTime, coherenceFrequency, coherenceTime, phaseFrequency, phaseTime, overallPhaseFrequency, overallPhaseTime};
 use bits::Field;
 
 // The entry of the scale factor word at a place.
