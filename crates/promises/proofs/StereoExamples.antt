@@ -1,4 +1,4 @@
--- The bench examples of document 01, the faults a bench has shown, and payloads of a published run, computed.
+-- The bench examples of the rules, the faults a bench has shown, and payloads of a published run, computed.
 -- Assumes nothing.
 use Prim.Native.Nat.{ℕ}
 use mathlib.Core.Path.{_≡_, refl}

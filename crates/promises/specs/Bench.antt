@@ -1,4 +1,4 @@
--- The bench examples that are proved, one a line: what is computed, and what the paper says.
+-- The bench examples that are proved, one a line: what is computed, and what the rules say.
 use Prim.Native.Nat.{ℕ}
 use mathlib.Core.List.{List, [], _∷_}
 use lib.IntN.{ℤ, pos, natAbs}

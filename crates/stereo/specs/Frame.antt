@@ -9,7 +9,7 @@ use Rattle.bits.specs.Loop.{listed}
 use Rattle.bits.specs.Lists.{padded}
 use Rattle.stereo.specs.declared.Frame.{Frame}
 
--- table 8.7: 0, 1, 2 or 4 envelopes; with variable borders 1, 2, 3 or 4
+-- by class and index: 0, 1, 2 or 4 envelopes; with variable borders 1, 2, 3 or 4
 unfoldable pub envelopeCount : ℕ → ℕ → ℕ
 envelopeCount class i = pick (eqb class 1) (i + 1) (pick (eqb i 3) 4 i)
 

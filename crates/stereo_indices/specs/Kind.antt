@@ -23,7 +23,7 @@ fine mode = leb 3 mode
 abbrev pub byMode : ℕ → ℕ → ℕ → ℕ → ℕ
 byMode mode a b c = pick (eqb (mode % 3) 0) a (pick (eqb (mode % 3) 1) b c)
 
--- tables 8.2 and 8.5: 10, 20 or 34 bands; of phases 5, 11 or 17
+-- by the mode modulo 3: 10, 20 or 34 bands; of phases 5, 11 or 17
 unfoldable pub bands : Kind → ℕ → ℕ
 bands k mode = pick (isPhase k) (byMode mode 5 11 17) (byMode mode 10 20 34)
 

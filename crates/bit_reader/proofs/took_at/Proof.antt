@@ -11,18 +11,6 @@ returns : tie.Need-returns
 unfolding tookAt
 returns c = rw (lt-leb _ _ (c .if1 .taken))
 
-last-place-requires : tie.Need-last-place-requires
-last-place-requires c κs = search needs
-
-read-field-requires : tie.Need-read-field-requires
-read-field-requires c κs = search needs
-
-enum-known-f : tie.Need-enum-known-f
-enum-known-f c = search needs
-
-enum-known-f-2 : tie.Need-enum-known-f-2
-enum-known-f-2 c = search needs
-
 returns-2 : tie.Need-returns-2
 unfolding tookAt
 returns-2 c =
@@ -52,11 +40,5 @@ returns-3 c =
 pub took-at-spec : {M : Type 1} → statement M
 took-at-spec =
     tie.close
-    (tie.spec
-    returns
-    last-place-requires
-    read-field-requires
-    enum-known-f
-    enum-known-f-2
-    returns-2
-    returns-3)
+    (tie.spec returns (λ c κs. search needs) (λ c κs. search needs) (λ c. search needs) (λ c. search needs)
+    returns-2 returns-3)

@@ -4,15 +4,6 @@ use borrow.Author.Needs.{needs}
 use Rattle.bits.proofs.at_most.Statement.{statement}
 use Rattle.bits.proofs.at_most.Tie as tie
 
-enum-known-f : tie.Need-enum-known-f
-enum-known-f c = search needs
-
-enum-told : tie.Need-enum-told
-enum-told c = search needs
-
-returns : tie.Need-returns
-returns c = search needs
-
 returns-2 : tie.Need-returns-2
 returns-2 c = rw (c .before .before .f .given .1, lt-leb _ _ (c .if1 .taken))
 
@@ -20,4 +11,6 @@ returns-3 : tie.Need-returns-3
 returns-3 c = rw (c .before .before .f .given .1, le-leb _ _ (c .if1 .left))
 
 pub at-most-spec : {M : Type 1} → statement M
-at-most-spec = tie.close (tie.spec enum-known-f enum-told returns returns-2 returns-3)
+at-most-spec =
+    tie.close
+    (tie.spec (λ c. search needs) (λ c. search needs) (λ c. search needs) returns-2 returns-3)

@@ -11,14 +11,10 @@ returns c = is-short _ _ _ _ (omega arith)
 returns-2 : tie.Need-returns-2
 returns-2 c = is-short _ _ _ _ (omega arith)
 
-bits-at-requires : tie.Need-bits-at-requires
-bits-at-requires c κs = search needs
-
-add-t6 : tie.Need-add-t6
-add-t6 c = search needs
-
 returns-3 : tie.Need-returns-3
 returns-3 c = is-field _ _ _ _ (omega arith) (c .bits-at .ensures)
 
 pub read-field-spec : {M : Type 1} → statement M
-read-field-spec = tie.close (tie.spec returns returns-2 bits-at-requires add-t6 returns-3)
+read-field-spec =
+    tie.close
+    (tie.spec returns returns-2 (λ c κs. search needs) (λ c. search needs) returns-3)

@@ -6,12 +6,6 @@ use borrow.Author.Needs.{needs}
 use Rattle.bits.proofs.read_unset_bit.Statement.{statement}
 use Rattle.bits.proofs.read_unset_bit.Tie as tie
 
-read-field-requires : tie.Need-read-field-requires
-read-field-requires c κs = search needs
-
-enum-known-f : tie.Need-enum-known-f
-enum-known-f c = search needs
-
 enum-told : tie.Need-enum-told
 enum-told c = search needs
 
@@ -37,4 +31,5 @@ returns-3 c =
 
 pub read-unset-bit-spec : {M : Type 1} → statement M
 read-unset-bit-spec =
-    tie.close (tie.spec read-field-requires enum-known-f enum-told returns returns-2 returns-3)
+    tie.close
+    (tie.spec (λ c κs. search needs) (λ c. search needs) enum-told returns returns-2 returns-3)

@@ -9,33 +9,12 @@ use borrow.Author.Needs.{needs}
 use Rattle.c_channel.proofs.oarcradler_read_channel.Statement.{statement}
 use Rattle.c_channel.proofs.oarcradler_read_channel.Tie as tie
 
-call-refusal-requires : tie.Need-call-refusal-requires
-call-refusal-requires c κs = search needs
-
 returns : tie.Need-returns
 returns c =
     let j = c .before in
     let a = j .before .before .before .before .before .args in
     call-refused (a .buf .now) (a .start) (a .end) (a .index) (a .lines .now) (a .factors .now) (a .books .now) (a .answer .now)
     (j .call-refusal .result) (j .call-refusal .ensures) (c .if1 .taken)
-
-narrow-requires : tie.Need-narrow-requires
-narrow-requires c κs = search needs
-
-read-channel-requires : tie.Need-read-channel-requires
-read-channel-requires c κs = search needs
-
-cast-result : tie.Need-cast-result
-cast-result c = search needs
-
-same-length : tie.Need-same-length
-same-length c = search needs
-
-same-length-2 : tie.Need-same-length-2
-same-length-2 c = search needs
-
-same-length-3 : tie.Need-same-length-3
-same-length-3 c = search needs
 
 returns-2 : tie.Need-returns-2
 returns-2 c =
@@ -55,18 +34,6 @@ put-reading-requires c κs =
     call-room (length (a .buf .now)) (a .start) (a .end) 17 (length (a .answer .now))
     (sym (tested .before .call-refusal .ensures) ∙ tested .if1 .left)
 
-same-length-4 : tie.Need-same-length-4
-same-length-4 c = search needs
-
-same-length-5 : tie.Need-same-length-5
-same-length-5 c = search needs
-
-same-length-6 : tie.Need-same-length-6
-same-length-6 c = search needs
-
-same-length-7 : tie.Need-same-length-7
-same-length-7 c = search needs
-
 returns-3 : tie.Need-returns-3
 returns-3 c =
     let read = c .before .before .before .before .before .before .before .before .before .before .before in
@@ -83,19 +50,6 @@ returns-3 c =
 pub oarcradler-read-channel-spec : {M : Type 1} → statement M
 oarcradler-read-channel-spec =
     tie.close
-    (tie.spec
-    call-refusal-requires
-    returns
-    narrow-requires
-    read-channel-requires
-    cast-result
-    same-length
-    same-length-2
-    same-length-3
-    returns-2
-    put-reading-requires
-    same-length-4
-    same-length-5
-    same-length-6
-    same-length-7
-    returns-3)
+    (tie.spec (λ c κs. search needs) returns (λ c κs. search needs) (λ c κs. search needs) (λ c. search needs)
+    (λ c. search needs) (λ c. search needs) (λ c. search needs) returns-2 put-reading-requires (λ c. search needs)
+    (λ c. search needs) (λ c. search needs) (λ c. search needs) returns-3)

@@ -15,12 +15,6 @@ returns c =
     let no = lt-leb 8 _ (c .if1 .taken) in
     (rw no, rw no)
 
-part-of-requires : tie.Need-part-of-requires
-part-of-requires c κs = search needs
-
-cast-result : tie.Need-cast-result
-cast-result c = search needs
-
 returns-2 : tie.Need-returns-2
 unfolding partNumber partAnswerAfter
 returns-2 c =
@@ -31,12 +25,6 @@ returns-2 c =
     let room = le-leb 8 (length (a .answer .now)) (omega arith) in
     let no = ne-eqb _ 0 (rw (r .ensures .0) at (c .before .if2 .taken)) in
     (rw room (ap (λ (z : _). z .number) (r .ensures .0)), rw (room, no))
-
-put-words-requires : tie.Need-put-words-requires
-put-words-requires c κs = search needs
-
-same-length : tie.Need-same-length
-same-length c = search needs
 
 returns-3 : tie.Need-returns-3
 unfolding partNumber partAnswerAfter
@@ -54,11 +42,5 @@ returns-3 c =
 pub oarcradler-find-part-spec : {M : Type 1} → statement M
 oarcradler-find-part-spec =
     tie.close
-    (tie.spec
-    returns
-    part-of-requires
-    cast-result
-    returns-2
-    put-words-requires
-    same-length
-    returns-3)
+    (tie.spec returns (λ c κs. search needs) (λ c. search needs) returns-2 (λ c κs. search needs)
+    (λ c. search needs) returns-3)

@@ -15,12 +15,6 @@ returns c =
     let no = lt-leb 8 _ (c .if1 .taken) in
     (rw no, rw no)
 
-read-header-requires : tie.Need-read-header-requires
-read-header-requires c κs = search needs
-
-cast-result : tie.Need-cast-result
-cast-result c = search needs
-
 returns-2 : tie.Need-returns-2
 unfolding imageNumber imageAnswerAfter
 returns-2 c =
@@ -31,15 +25,6 @@ returns-2 c =
     let room = le-leb 8 (length (a .answer .now)) (omega arith) in
     let no = ne-eqb _ 0 (rw (r .ensures) at (c .before .if2 .taken)) in
     (rw room (ap (λ (z : _). z .number) (r .ensures)), rw (room, no))
-
-cast-put-words : tie.Need-cast-put-words
-cast-put-words c = search needs
-
-put-words-requires : tie.Need-put-words-requires
-put-words-requires c κs = search needs
-
-same-length : tie.Need-same-length
-same-length c = search needs
 
 returns-3 : tie.Need-returns-3
 unfolding imageNumber imageAnswerAfter
@@ -57,12 +42,5 @@ returns-3 c =
 pub oarcradler-read-header-spec : {M : Type 1} → statement M
 oarcradler-read-header-spec =
     tie.close
-    (tie.spec
-    returns
-    read-header-requires
-    cast-result
-    returns-2
-    cast-put-words
-    put-words-requires
-    same-length
-    returns-3)
+    (tie.spec returns (λ c κs. search needs) (λ c. search needs) returns-2 (λ c. search needs)
+    (λ c κs. search needs) (λ c. search needs) returns-3)

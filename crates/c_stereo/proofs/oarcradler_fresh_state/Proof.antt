@@ -13,15 +13,6 @@ returns c =
     let no = lt-leb 146 _ (c .if1 .taken) in
     (rw no, rw no)
 
-fresh-requires : tie.Need-fresh-requires
-fresh-requires c κs = search needs
-
-put-state-requires : tie.Need-put-state-requires
-put-state-requires c κs = search needs
-
-same-length : tie.Need-same-length
-same-length c = search needs
-
 returns-2 : tie.Need-returns-2
 returns-2 c =
     let at-fresh = c .before .before .before in
@@ -32,4 +23,5 @@ returns-2 c =
 
 pub oarcradler-fresh-state-spec : {M : Type 1} → statement M
 oarcradler-fresh-state-spec =
-    tie.close (tie.spec returns fresh-requires put-state-requires same-length returns-2)
+    tie.close
+    (tie.spec returns (λ c κs. search needs) (λ c κs. search needs) (λ c. search needs) returns-2)

@@ -12,12 +12,6 @@ use borrow.Author.Needs.{needs}
 use Rattle.c_stereo.proofs.oarcradler_read_stereo.Statement.{statement}
 use Rattle.c_stereo.proofs.oarcradler_read_stereo.Tie as tie
 
-stereo-call-refusal-requires : tie.Need-stereo-call-refusal-requires
-stereo-call-refusal-requires c κs = search needs
-
-same-length : tie.Need-same-length
-same-length c = search needs
-
 returns : tie.Need-returns
 returns c =
     let entry = c .before .before .before .before .before .before in
@@ -64,9 +58,6 @@ part-read-bytes-end c =
     let p = stereo-passed (a .state .now) (length (a .buf .now)) (a .start) (a .end) (length (a .answer .now)) e in
     omega (arith, p .2, p .3)
 
-read-bytes-requires : tie.Need-read-bytes-requires
-read-bytes-requires c κs = search needs
-
 slice-write-state : tie.Need-slice-write-state
 slice-write-state c =
     let tested = c .before .before .before .before .before .before in
@@ -79,12 +70,6 @@ slice-write-state c =
       sound-long (a .state .now)
           (stereo-passed (a .state .now) (length (a .buf .now)) (a .start) (a .end) (length (a .answer .now)) e .1),
     )
-
-cast-result : tie.Need-cast-result
-cast-result c = search needs
-
-same-length-2 : tie.Need-same-length-2
-same-length-2 c = search needs
 
 returns-2 : tie.Need-returns-2
 returns-2 c =
@@ -116,12 +101,6 @@ put-answer-requires c κs =
     _∙_ {b = j .stereo-call-refusal .result} (sym (j .stereo-call-refusal .ensures)) (tested .if1 .left) in
     stereo-passed (a .state .now) (length (a .buf .now)) (a .start) (a .end) (length (a .answer .now)) e .0
 
-same-length-3 : tie.Need-same-length-3
-same-length-3 c = search needs
-
-same-length-4 : tie.Need-same-length-4
-same-length-4 c = search needs
-
 returns-3 : tie.Need-returns-3
 returns-3 c =
     let tested = c .before .before .before .before .before .before .before .before .before .before .before .before .before .before in
@@ -139,21 +118,7 @@ returns-3 c =
 pub oarcradler-read-stereo-spec : {M : Type 1} → statement M
 oarcradler-read-stereo-spec =
     tie.close
-    (tie.spec
-    stereo-call-refusal-requires
-    same-length
-    returns
-    state-at-requires
-    sub-read-bytes
-    part-read-bytes-start
-    part-read-bytes-end
-    read-bytes-requires
-    slice-write-state
-    cast-result
-    same-length-2
-    returns-2
-    put-state-requires
-    put-answer-requires
-    same-length-3
-    same-length-4
+    (tie.spec (λ c κs. search needs) (λ c. search needs) returns state-at-requires sub-read-bytes
+    part-read-bytes-start part-read-bytes-end (λ c κs. search needs) slice-write-state (λ c. search needs)
+    (λ c. search needs) returns-2 put-state-requires put-answer-requires (λ c. search needs) (λ c. search needs)
     returns-3)

@@ -8,12 +8,6 @@ use borrow.Author.Needs.{needs}
 use Rattle.c_stereo.proofs.oarcradler_report_missing.Statement.{statement}
 use Rattle.c_stereo.proofs.oarcradler_report_missing.Tie as tie
 
-is-sound-at-requires : tie.Need-is-sound-at-requires
-is-sound-at-requires c κs = search needs
-
-same-length : tie.Need-same-length
-same-length c = search needs
-
 returns : tie.Need-returns
 returns c =
     let no = sym (c .before .is-sound-at .ensures) ∙ not-true _ (c .if1 .taken) in
@@ -21,9 +15,6 @@ returns c =
 
 slice-write-state : tie.Need-slice-write-state
 slice-write-state c = omega (arith, sound-long _ (sym (c .before .is-sound-at .ensures) ∙ not-false _ (c .if1 .left)))
-
-same-length-2 : tie.Need-same-length-2
-same-length-2 c = search needs
 
 returns-2 : tie.Need-returns-2
 returns-2 c =
@@ -33,4 +24,4 @@ returns-2 c =
 pub oarcradler-report-missing-spec : {M : Type 1} → statement M
 oarcradler-report-missing-spec =
     tie.close
-    (tie.spec is-sound-at-requires same-length returns slice-write-state same-length-2 returns-2)
+    (tie.spec (λ c κs. search needs) (λ c. search needs) returns slice-write-state (λ c. search needs) returns-2)

@@ -7,15 +7,9 @@ use borrow.Author.Needs.{needs}
 use Rattle.c_stereo.proofs.stereo_call_refusal.Statement.{statement}
 use Rattle.c_stereo.proofs.stereo_call_refusal.Tie as tie
 
-call-refusal-requires : tie.Need-call-refusal-requires
-call-refusal-requires c κs = search needs
-
 returns : tie.Need-returns
 unfolding stereoCallRefusal
 returns c = rw (sym (c .before .call-refusal .ensures)) (rw (ne-eqb _ 0 (c .if1 .taken)))
-
-is-sound-at-requires : tie.Need-is-sound-at-requires
-is-sound-at-requires c κs = search needs
 
 returns-2 : tie.Need-returns-2
 unfolding stereoCallRefusal
@@ -31,4 +25,5 @@ returns-3 c =
 
 pub stereo-call-refusal-spec : {M : Type 1} → statement M
 stereo-call-refusal-spec =
-    tie.close (tie.spec call-refusal-requires returns is-sound-at-requires returns-2 returns-3)
+    tie.close
+    (tie.spec (λ c κs. search needs) returns (λ c κs. search needs) returns-2 returns-3)

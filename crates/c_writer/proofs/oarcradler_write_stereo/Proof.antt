@@ -15,12 +15,6 @@ use borrow.Author.Needs.{needs}
 use Rattle.c_writer.proofs.oarcradler_write_stereo.Statement.{statement}
 use Rattle.c_writer.proofs.oarcradler_write_stereo.Tie as tie
 
-write-call-refusal-requires : tie.Need-write-call-refusal-requires
-write-call-refusal-requires c κs = search needs
-
-same-length : tie.Need-same-length
-same-length c = search needs
-
 returns : tie.Need-returns
 returns c =
     let j = c .before in
@@ -41,21 +35,6 @@ contents-at-requires c κs =
     let a = j .before .before .before .before .before .args in
     write-passed (a .state .now) (length (a .contents .now))
     (sym (j .write-call-refusal .ensures) ∙ c .before .before .before .if1 .left) .1
-
-write-requires : tie.Need-write-requires
-write-requires c κs = search needs
-
-cast-result : tie.Need-cast-result
-cast-result c = search needs
-
-same-length-2 : tie.Need-same-length-2
-same-length-2 c = search needs
-
-same-length-3 : tie.Need-same-length-3
-same-length-3 c = search needs
-
-same-length-4 : tie.Need-same-length-4
-same-length-4 c = search needs
 
 returns-2 : tie.Need-returns-2
 returns-2 c =
@@ -84,12 +63,6 @@ put-state-requires c κs =
     sound-long (a .state .now)
     (write-passed (a .state .now) (length (a .contents .now)) (sym (j .write-call-refusal .ensures) ∙ tested .if1 .left) .0)
 
-word-of-requires : tie.Need-word-of-requires
-word-of-requires c κs = search needs
-
-slice-aggregate-put : tie.Need-slice-aggregate-put
-slice-aggregate-put c = search needs
-
 put-requires : tie.Need-put-requires
 put-requires c κs =
     let w = c .before .before .before .before .before .before .before .before .before .before .before in
@@ -99,15 +72,6 @@ put-requires c κs =
     let long = write-passed (a .state .now) (length (a .contents .now)) (sym (j .write-call-refusal .ensures) ∙ tested .if1 .left) .1 in
     let four : length (c .before .before .word-of .result) ≡ 4 = search needs in
     omega (arith, long)
-
-same-length-5 : tie.Need-same-length-5
-same-length-5 c = search needs
-
-same-length-6 : tie.Need-same-length-6
-same-length-6 c = search needs
-
-same-length-7 : tie.Need-same-length-7
-same-length-7 c = search needs
 
 returns-3 : tie.Need-returns-3
 returns-3 c =
@@ -142,23 +106,7 @@ returns-3 c =
 pub oarcradler-write-stereo-spec : {M : Type 1} → statement M
 oarcradler-write-stereo-spec =
     tie.close
-    (tie.spec
-    write-call-refusal-requires
-    same-length
-    returns
-    state-at-requires
-    contents-at-requires
-    write-requires
-    cast-result
-    same-length-2
-    same-length-3
-    same-length-4
-    returns-2
-    put-state-requires
-    word-of-requires
-    slice-aggregate-put
-    put-requires
-    same-length-5
-    same-length-6
-    same-length-7
-    returns-3)
+    (tie.spec (λ c κs. search needs) (λ c. search needs) returns state-at-requires contents-at-requires
+    (λ c κs. search needs) (λ c. search needs) (λ c. search needs) (λ c. search needs) (λ c. search needs)
+    returns-2 put-state-requires (λ c κs. search needs) (λ c. search needs) put-requires (λ c. search needs)
+    (λ c. search needs) (λ c. search needs) returns-3)

@@ -6,9 +6,6 @@ use borrow.Author.Needs.{needs}
 use Rattle.c_writer.proofs.write_call_refusal.Statement.{statement}
 use Rattle.c_writer.proofs.write_call_refusal.Tie as tie
 
-is-sound-at-requires : tie.Need-is-sound-at-requires
-is-sound-at-requires c κs = search needs
-
 returns : tie.Need-returns
 returns c = rw (sym (c .before .is-sound-at .ensures) ∙ not-true _ (c .if1 .taken))
 
@@ -19,4 +16,6 @@ returns-3 : tie.Need-returns-3
 returns-3 c = rw (sym (c .before .before .is-sound-at .ensures) ∙ not-false _ (c .before .if1 .left), le-leb _ _ (c .if2 .left))
 
 pub write-call-refusal-spec : {M : Type 1} → statement M
-write-call-refusal-spec = tie.close (tie.spec is-sound-at-requires returns returns-2 returns-3)
+write-call-refusal-spec =
+    tie.close
+    (tie.spec (λ c κs. search needs) returns returns-2 returns-3)

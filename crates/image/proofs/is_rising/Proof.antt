@@ -17,24 +17,6 @@ abbrev μ-loop : tie.MeasureT-loop
 loop-holds : tie.Need-loop-holds Inv-loop μ-loop
 loop-holds c = (omega arith, let q : c .before .args .n - 0 ≡ c .before .args .n = omega arith in rw q)
 
-mul-pair-at : tie.Need-mul-pair-at Inv-loop μ-loop
-mul-pair-at c = search needs
-
-add-pair-at : tie.Need-add-pair-at Inv-loop μ-loop
-add-pair-at c = search needs
-
-pair-at-requires : tie.Need-pair-at-requires Inv-loop μ-loop
-pair-at-requires c κs = search needs
-
-mul-pair-at-2 : tie.Need-mul-pair-at-2 Inv-loop μ-loop
-mul-pair-at-2 c = search needs
-
-add-pair-at-2 : tie.Need-add-pair-at-2 Inv-loop μ-loop
-add-pair-at-2 c = search needs
-
-pair-at-requires-2 : tie.Need-pair-at-requires-2 Inv-loop μ-loop
-pair-at-requires-2 c κs = search needs
-
 returns : tie.Need-returns Inv-loop μ-loop
 returns c =
     let at-loop-test = c .before .before .before in
@@ -45,12 +27,6 @@ returns c =
     let h : pairAt (x .image .now) (2 * l .k + 6) < pairAt (x .image .now) (2 * l .k + 4) =
     rw (← (c .before .before .pair-at .ensures .0), ← (c .before .pair-at2 .ensures .0)) (c .if1 .taken) in
     sym (l .inv .1 ∙ rising-stop (x .image .now) (l .k) (x .n) (at-loop-test .loop-test .taken) h)
-
-add-k : tie.Need-add-k Inv-loop μ-loop
-add-k c = search needs
-
-loop-less : tie.Need-loop-less Inv-loop μ-loop
-loop-less c = search needs
 
 loop-again : tie.Need-loop-again Inv-loop μ-loop
 loop-again c =
@@ -72,18 +48,6 @@ returns-2 c =
 pub is-rising-spec : {M : Type 1} → statement M
 is-rising-spec =
     tie.close
-    (tie.spec
-    Inv-loop
-    μ-loop
-    loop-holds
-    mul-pair-at
-    add-pair-at
-    pair-at-requires
-    mul-pair-at-2
-    add-pair-at-2
-    pair-at-requires-2
-    returns
-    add-k
-    loop-less
-    loop-again
-    returns-2)
+    (tie.spec Inv-loop μ-loop loop-holds (λ c. search needs) (λ c. search needs) (λ c κs. search needs)
+    (λ c. search needs) (λ c. search needs) (λ c κs. search needs) returns (λ c. search needs) (λ c. search needs)
+    loop-again returns-2)

@@ -19,9 +19,6 @@ returns-2 c =
     let s = c .before .before .before .args .image .now in
     rw (le-leb (length s) 65535 (omega arith), lt-leb _ _ (c .if2 .taken))
 
-pair-at-requires : tie.Need-pair-at-requires
-pair-at-requires c κs = search needs
-
 returns-3 : tie.Need-returns-3
 unfolding soundImage
 returns-3 c =
@@ -43,12 +40,6 @@ returns-4 c =
       lt-leb _ _ (c .if4 .taken),
     )
 
-mul-if5 : tie.Need-mul-if5
-mul-if5 c = search needs
-
-add-if5 : tie.Need-add-if5
-add-if5 c = search needs
-
 returns-5 : tie.Need-returns-5
 unfolding soundImage
 returns-5 c =
@@ -64,15 +55,6 @@ returns-5 c =
       le-leb (n .result) 1024 (omega arith),
       lt-leb _ _ (c .if5 .taken),
     )
-
-pair-at-requires-2 : tie.Need-pair-at-requires-2
-pair-at-requires-2 c κs = search needs
-
-mul-if6 : tie.Need-mul-if6
-mul-if6 c = search needs
-
-add-if6 : tie.Need-add-if6
-add-if6 c = search needs
 
 returns-6 : tie.Need-returns-6
 unfolding soundImage
@@ -92,9 +74,6 @@ returns-6 c =
       ← (first .ensures .0),
       ne-eqb _ _ (c .if6 .taken),
     )
-
-is-rising-requires : tie.Need-is-rising-requires
-is-rising-requires c κs = search needs
 
 returns-7 : tie.Need-returns-7
 unfolding soundImage
@@ -117,15 +96,6 @@ returns-7 c =
       ← (c .before .is-rising .ensures),
       not-true (c .before .is-rising .result) (c .if7 .taken),
     )
-
-mul-pair-at : tie.Need-mul-pair-at
-mul-pair-at c = search needs
-
-add-pair-at : tie.Need-add-pair-at
-add-pair-at c = search needs
-
-pair-at-requires-3 : tie.Need-pair-at-requires-3
-pair-at-requires-3 c κs = search needs
 
 returns-8 : tie.Need-returns-8
 unfolding soundImage
@@ -153,22 +123,6 @@ returns-8 c =
 pub is-sound-spec : {M : Type 1} → statement M
 is-sound-spec =
     tie.close
-    (tie.spec
-    returns
-    returns-2
-    pair-at-requires
-    returns-3
-    returns-4
-    mul-if5
-    add-if5
-    returns-5
-    pair-at-requires-2
-    mul-if6
-    add-if6
-    returns-6
-    is-rising-requires
-    returns-7
-    mul-pair-at
-    add-pair-at
-    pair-at-requires-3
-    returns-8)
+    (tie.spec returns returns-2 (λ c κs. search needs) returns-3 returns-4 (λ c. search needs) (λ c. search needs)
+    returns-5 (λ c κs. search needs) (λ c. search needs) (λ c. search needs) returns-6 (λ c κs. search needs)
+    returns-7 (λ c. search needs) (λ c. search needs) (λ c κs. search needs) returns-8)

@@ -9,9 +9,6 @@ use borrow.Author.Needs.{needs}
 use Rattle.image.proofs.part_of.Statement.{statement}
 use Rattle.image.proofs.part_of.Tie as tie
 
-read-header-requires : tie.Need-read-header-requires
-read-header-requires c κs = search needs
-
 returns : tie.Need-returns
 unfolding partOf
 returns c =
@@ -102,14 +99,5 @@ returns-3 c =
 pub part-of-spec : {M : Type 1} → statement M
 part-of-spec =
     tie.close
-    (tie.spec
-    read-header-requires
-    returns
-    returns-2
-    mul-pair-at
-    add-pair-at
-    pair-at-requires
-    mul-pair-at-2
-    add-pair-at-2
-    pair-at-requires-2
-    returns-3)
+    (tie.spec (λ c κs. search needs) returns returns-2 mul-pair-at add-pair-at pair-at-requires mul-pair-at-2
+    add-pair-at-2 pair-at-requires-2 returns-3)

@@ -9,9 +9,6 @@ use borrow.Author.Needs.{needs}
 use Rattle.image.proofs.read_header.Statement.{statement}
 use Rattle.image.proofs.read_header.Tie as tie
 
-is-sound-requires : tie.Need-is-sound-requires
-is-sound-requires c κs = search needs
-
 returns : tie.Need-returns
 unfolding headerOf
 returns c =
@@ -24,9 +21,6 @@ pair-at-requires c κs =
     let s = c .before .before .before .args .image .now in
     let f = sound-facts s (sym (c .before .is-sound .ensures) ∙ not-false (c .before .is-sound .result) (c .if1 .left)) in
     omega arith
-
-is-known-requires : tie.Need-is-known-requires
-is-known-requires c κs = search needs
 
 returns-2 : tie.Need-returns-2
 unfolding headerOf
@@ -66,12 +60,5 @@ returns-3 c =
 pub read-header-spec : {M : Type 1} → statement M
 read-header-spec =
     tie.close
-    (tie.spec
-    is-sound-requires
-    returns
-    pair-at-requires
-    is-known-requires
-    returns-2
-    pair-at-requires-2
-    cast-t6
-    returns-3)
+    (tie.spec (λ c κs. search needs) returns pair-at-requires (λ c κs. search needs) returns-2 pair-at-requires-2
+    cast-t6 returns-3)

@@ -21,39 +21,9 @@ Inv-loop image count index rows₀ state₀ k₀ rows state k =
 abbrev μ-loop : tie.MeasureT-loop
 μ-loop image count index rows₀ state₀ k₀ rows state k = count - k
 
-fresh-requires : tie.Need-fresh-requires Inv-loop μ-loop
-fresh-requires c κs = search needs
-
 loop-holds : tie.Need-loop-holds Inv-loop μ-loop
 unfolding stateBefore rowsOf
 loop-holds c = (omega arith, c .fresh .ensures, refl, put-none (c .before .before .before .args .rows .now) 0)
-
-part-of-requires : tie.Need-part-of-requires Inv-loop μ-loop
-part-of-requires c κs = search needs
-
-sub-turn-of : tie.Need-sub-turn-of Inv-loop μ-loop
-sub-turn-of c = search needs
-
-part-turn-of-start : tie.Need-part-turn-of-start Inv-loop μ-loop
-part-turn-of-start c = search needs
-
-part-turn-of-end : tie.Need-part-turn-of-end Inv-loop μ-loop
-part-turn-of-end c = search needs
-
-turn-of-requires : tie.Need-turn-of-requires Inv-loop μ-loop
-turn-of-requires c κs = search needs
-
-mul-put-row : tie.Need-mul-put-row Inv-loop μ-loop
-mul-put-row c = search needs
-
-put-row-requires : tie.Need-put-row-requires Inv-loop μ-loop
-put-row-requires c κs = search needs
-
-add-k : tie.Need-add-k Inv-loop μ-loop
-add-k c = search needs
-
-loop-less : tie.Need-loop-less Inv-loop μ-loop
-loop-less c = search needs
 
 loop-again : tie.Need-loop-again Inv-loop μ-loop
 loop-again c =
@@ -78,9 +48,6 @@ loop-again c =
     let few : l .k + 1 ≤ a .count = omega arith in
     (few, state, long, put-as (a .rows .now) 0 _ _ _ _ next more (omega arith))
 
-same-length : tie.Need-same-length Inv-loop μ-loop
-same-length c = search needs
-
 returns : tie.Need-returns Inv-loop μ-loop
 returns c =
     let l = c .before .loop in
@@ -90,20 +57,6 @@ returns c =
 pub fill-rows-spec : {M : Type 1} → statement M
 fill-rows-spec =
     tie.close
-    (tie.spec
-    Inv-loop
-    μ-loop
-    fresh-requires
-    loop-holds
-    part-of-requires
-    sub-turn-of
-    part-turn-of-start
-    part-turn-of-end
-    turn-of-requires
-    mul-put-row
-    put-row-requires
-    add-k
-    loop-less
-    loop-again
-    same-length
-    returns)
+    (tie.spec Inv-loop μ-loop (λ c κs. search needs) loop-holds (λ c κs. search needs) (λ c. search needs)
+    (λ c. search needs) (λ c. search needs) (λ c κs. search needs) (λ c. search needs) (λ c κs. search needs)
+    (λ c. search needs) (λ c. search needs) loop-again (λ c. search needs) returns)

@@ -9,9 +9,6 @@ use borrow.Author.Needs.{needs}
 use Rattle.image_outline.proofs.read_image.Statement.{statement}
 use Rattle.image_outline.proofs.read_image.Tie as tie
 
-read-header-requires : tie.Need-read-header-requires
-read-header-requires c κs = search needs
-
 returns : tie.Need-returns
 returns c =
     let a = c .before .before .before .before .before .args in
@@ -45,9 +42,6 @@ fill-rows-requires c κs =
     let small = known .0 .small in
     rw h (small, omega (arith, known .1, few), rw h at (c .before .if2 .left), sound-header (headerOf (a .image .now)) zero)
 
-same-length : tie.Need-same-length
-same-length c = search needs
-
 returns-3 : tie.Need-returns-3
 returns-3 c =
     let header = c .before .before .before .before .before .before .before in
@@ -61,11 +55,4 @@ returns-3 c =
 pub read-image-spec : {M : Type 1} → statement M
 read-image-spec =
     tie.close
-    (tie.spec
-    read-header-requires
-    returns
-    mul-if2
-    returns-2
-    fill-rows-requires
-    same-length
-    returns-3)
+    (tie.spec (λ c κs. search needs) returns mul-if2 returns-2 fill-rows-requires (λ c. search needs) returns-3)

@@ -5,12 +5,6 @@ use Rattle.image_outline.specs.Answers.{stereoIn}
 use Rattle.image_outline.proofs.stereo_turn.Statement.{statement}
 use Rattle.image_outline.proofs.stereo_turn.Tie as tie
 
-read-requires : tie.Need-read-requires
-read-requires c κs = search needs
-
-wide-requires : tie.Need-wide-requires
-wide-requires c κs = search needs
-
 returns : tie.Need-returns
 unfolding stereoIn
 returns c =
@@ -18,4 +12,4 @@ returns c =
     (rw (c .before .wide .ensures .0, r), rw r)
 
 pub stereo-turn-spec : {M : Type 1} → statement M
-stereo-turn-spec = tie.close (tie.spec read-requires wide-requires returns)
+stereo-turn-spec = tie.close (tie.spec (λ c κs. search needs) (λ c κs. search needs) returns)

@@ -9,17 +9,11 @@ use borrow.Author.Needs.{needs}
 use Rattle.image_outline.proofs.turn_of.Statement.{statement}
 use Rattle.image_outline.proofs.turn_of.Tie as tie
 
-channel-row-requires : tie.Need-channel-row-requires
-channel-row-requires c κs = search needs
-
 returns : tie.Need-returns
 unfolding rowFrom stateFrom
 returns c =
     let even = eq-eqb (c .before .before .before .args .k % 2) 0 (c .before .if1 .taken) in
     (c .channel-row .ensures ∙ rw even, rw even)
-
-stereo-turn-requires : tie.Need-stereo-turn-requires
-stereo-turn-requires c κs = search needs
 
 returns-2 : tie.Need-returns-2
 unfolding rowFrom stateFrom
@@ -28,4 +22,6 @@ returns-2 c =
     (c .stereo-turn .ensures .0 ∙ rw odd, c .stereo-turn .ensures .1 ∙ rw odd)
 
 pub turn-of-spec : {M : Type 1} → statement M
-turn-of-spec = tie.close (tie.spec channel-row-requires returns stereo-turn-requires returns-2)
+turn-of-spec =
+    tie.close
+    (tie.spec (λ c κs. search needs) returns (λ c κs. search needs) returns-2)

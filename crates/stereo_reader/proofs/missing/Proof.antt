@@ -6,19 +6,15 @@ use borrow.Author.Needs.{needs}
 use Rattle.stereo_reader.proofs.missing.Statement.{statement}
 use Rattle.stereo_reader.proofs.missing.Tie as tie
 
-is-sound-requires : tie.Need-is-sound-requires
-is-sound-requires c κs = search needs
-
 returns : tie.Need-returns
 unfolding missing
 returns c = rw (sym (c .before .is-sound .ensures) ∙ not-true _ (c .if1 .taken))
-
-lost-requires : tie.Need-lost-requires
-lost-requires c κs = search needs
 
 returns-2 : tie.Need-returns-2
 unfolding missing
 returns-2 c = rw (sym (c .before .before .is-sound .ensures) ∙ not-false _ (c .before .if1 .left), c .lost .ensures)
 
 pub missing-spec : {M : Type 1} → statement M
-missing-spec = tie.close (tie.spec is-sound-requires returns lost-requires returns-2)
+missing-spec =
+    tie.close
+    (tie.spec (λ c κs. search needs) returns (λ c κs. search needs) returns-2)

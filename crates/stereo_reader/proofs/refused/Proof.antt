@@ -3,11 +3,8 @@ use borrow.Author.Needs.{needs}
 use Rattle.stereo_reader.proofs.refused.Statement.{statement}
 use Rattle.stereo_reader.proofs.refused.Tie as tie
 
-no-contents-requires : tie.Need-no-contents-requires
-no-contents-requires c κs = search needs
-
 returns : tie.Need-returns
 returns c = rw (c .no-contents .ensures)
 
 pub refused-spec : {M : Type 1} → statement M
-refused-spec = tie.close (tie.spec no-contents-requires returns)
+refused-spec = tie.close (tie.spec (λ c κs. search needs) returns)

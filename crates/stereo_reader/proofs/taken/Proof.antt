@@ -6,21 +6,9 @@ use borrow.Author.Needs.{needs}
 use Rattle.stereo_reader.proofs.taken.Statement.{statement}
 use Rattle.stereo_reader.proofs.taken.Tie as tie
 
-is-accepted-requires : tie.Need-is-accepted-requires
-is-accepted-requires c κs = search needs
-
-refused-at-requires : tie.Need-refused-at-requires
-refused-at-requires c κs = search needs
-
 returns : tie.Need-returns
 unfolding taken
 returns c = c .refused-at .ensures ∙ rw (sym (c .before .before .is-accepted .ensures) ∙ not-true _ (c .before .if1 .taken))
-
-read-from-requires : tie.Need-read-from-requires
-read-from-requires c κs = search needs
-
-carried-requires : tie.Need-carried-requires
-carried-requires c κs = search needs
 
 returns-2 : tie.Need-returns-2
 unfolding taken
@@ -34,10 +22,5 @@ returns-2 c = rw (
 pub taken-spec : {M : Type 1} → statement M
 taken-spec =
     tie.close
-    (tie.spec
-    is-accepted-requires
-    refused-at-requires
-    returns
-    read-from-requires
-    carried-requires
+    (tie.spec (λ c κs. search needs) (λ c κs. search needs) returns (λ c κs. search needs) (λ c κs. search needs)
     returns-2)

@@ -7,14 +7,8 @@ use borrow.Author.Needs.{needs}
 use Rattle.tables.proofs.count_of.Statement.{statement}
 use Rattle.tables.proofs.count_of.Tie as tie
 
-slice-aggregate-element : tie.Need-slice-aggregate-element
-slice-aggregate-element c = search needs
-
-element-requires : tie.Need-element-requires
-element-requires c κs = search needs
-
 returns : tie.Need-returns
 returns c = c .element .ensures ∙ each-at (λ (t : Table). t .count) refl tables (c .before .before .args .t)
 
 pub count-of-spec : {M : Type 1} → statement M
-count-of-spec = tie.close (tie.spec slice-aggregate-element element-requires returns)
+count-of-spec = tie.close (tie.spec (λ c. search needs) (λ c κs. search needs) returns)

@@ -10,12 +10,6 @@ use borrow.Author.Needs.{needs}
 use Rattle.tables.proofs.entry_word.Statement.{statement}
 use Rattle.tables.proofs.entry_word.Tie as tie
 
-first-of-requires : tie.Need-first-of-requires
-first-of-requires c κs = search needs
-
-count-of-requires : tie.Need-count-of-requires
-count-of-requires c κs = search needs
-
 returns : tie.Need-returns
 returns c =
     let x = c .before .before .before .before .before .args in
@@ -101,13 +95,5 @@ returns-2 c =
 pub entry-word-spec : {M : Type 1} → statement M
 entry-word-spec =
     tie.close
-    (tie.spec
-    first-of-requires
-    count-of-requires
-    returns
-    add-t8
-    mul-t9
-    shared-slice-read-t11
-    add-t12
-    shared-slice-read-t14
-    returns-2)
+    (tie.spec (λ c κs. search needs) (λ c κs. search needs) returns add-t8 mul-t9 shared-slice-read-t11 add-t12
+    shared-slice-read-t14 returns-2)

@@ -8,29 +8,11 @@ use borrow.Author.Needs.{needs}
 use Rattle.tables.proofs.table_word.Statement.{statement}
 use Rattle.tables.proofs.table_word.Tie as tie
 
-add-last : tie.Need-add-last
-add-last c = search needs
-
-mul-read-word : tie.Need-mul-read-word
-mul-read-word c = search needs
-
-sub-read-word : tie.Need-sub-read-word
-sub-read-word c = search needs
-
-part-read-word-start : tie.Need-part-read-word-start
-part-read-word-start c = search needs
-
 part-read-word-end : tie.Need-part-read-word-end
 part-read-word-end c =
     let a = c .before .before .before in
     let l : length (a .args .codes .now) ≡ 1604 = ap length (a .pre .1 .0) ∙ codes-count in
     search needs
-
-sub-read-word-2 : tie.Need-sub-read-word-2
-sub-read-word-2 c = search needs
-
-part-read-word-start-2 : tie.Need-part-read-word-start-2
-part-read-word-start-2 c = search needs
 
 part-read-word-end-2 : tie.Need-part-read-word-end-2
 part-read-word-end-2 c =
@@ -53,14 +35,5 @@ returns c =
 pub table-word-spec : {M : Type 1} → statement M
 table-word-spec =
     tie.close
-    (tie.spec
-    add-last
-    mul-read-word
-    sub-read-word
-    part-read-word-start
-    part-read-word-end
-    sub-read-word-2
-    part-read-word-start-2
-    part-read-word-end-2
-    read-word-requires
-    returns)
+    (tie.spec (λ c. search needs) (λ c. search needs) (λ c. search needs) (λ c. search needs) part-read-word-end
+    (λ c. search needs) (λ c. search needs) part-read-word-end-2 read-word-requires returns)

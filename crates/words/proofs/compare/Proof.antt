@@ -4,26 +4,11 @@ use borrow.Author.Needs.{needs}
 use Rattle.words.proofs.compare.Statement.{statement}
 use Rattle.words.proofs.compare.Tie as tie
 
-cast-if2 : tie.Need-cast-if2
-cast-if2 c = search needs
-
-shr-if2 : tie.Need-shr-if2
-shr-if2 c = search needs
-
 returns : tie.Need-returns
 returns c = simp (le-leb _ _ (c .before .before .if1 .taken), eq-eqb _ _ (c .if2 .taken))
 
 returns-2 : tie.Need-returns-2
 returns-2 c = simp (le-leb _ _ (c .before .before .if1 .taken), ne-eqb _ _ (c .if2 .left))
-
-sub-if3 : tie.Need-sub-if3
-sub-if3 c = search needs
-
-cast-if3 : tie.Need-cast-if3
-cast-if3 c = search needs
-
-shr-if3 : tie.Need-shr-if3
-shr-if3 c = search needs
 
 returns-3 : tie.Need-returns-3
 returns-3 c = simp (lt-leb _ _ (c .before .before .if1 .left), eq-eqb _ _ (c .if3 .taken))
@@ -34,4 +19,5 @@ returns-4 c = simp (lt-leb _ _ (c .before .before .if1 .left), ne-eqb _ _ (c .if
 pub compare-spec : {M : Type 1} → statement M
 compare-spec =
     tie.close
-    (tie.spec cast-if2 shr-if2 returns returns-2 sub-if3 cast-if3 shr-if3 returns-3 returns-4)
+    (tie.spec (λ c. search needs) (λ c. search needs) returns returns-2 (λ c. search needs) (λ c. search needs)
+    (λ c. search needs) returns-3 returns-4)

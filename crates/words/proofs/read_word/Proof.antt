@@ -17,21 +17,9 @@ Inv-loop s at end codes lens w short₀ i₀ short i =
 abbrev μ-loop : tie.MeasureT-loop
 μ-loop s at end codes lens w short₀ i₀ short i = length lens - i
 
-first-bits-requires : tie.Need-first-bits-requires Inv-loop μ-loop
-first-bits-requires c κs = search needs
-
 loop-holds : tie.Need-loop-holds Inv-loop μ-loop
 unfolding word
 loop-holds c = (search needs, refl)
-
-mul-compare : tie.Need-mul-compare Inv-loop μ-loop
-mul-compare c = search needs
-
-shared-slice-read-compare : tie.Need-shared-slice-read-compare Inv-loop μ-loop
-shared-slice-read-compare c = search needs
-
-shared-slice-read-compare-2 : tie.Need-shared-slice-read-compare-2 Inv-loop μ-loop
-shared-slice-read-compare-2 c = search needs
 
 compare-requires : tie.Need-compare-requires Inv-loop μ-loop
 compare-requires c κs =
@@ -41,12 +29,6 @@ compare-requires c κs =
 
 enum-told : tie.Need-enum-told Inv-loop μ-loop
 enum-told c = search needs
-
-cast-t16 : tie.Need-cast-t16 Inv-loop μ-loop
-cast-t16 c = search needs
-
-shared-slice-read-t18 : tie.Need-shared-slice-read-t18 Inv-loop μ-loop
-shared-slice-read-t18 c = search needs
 
 cast-t19 : tie.Need-cast-t19 Inv-loop μ-loop
 cast-t19 c =
@@ -81,18 +63,6 @@ returns c =
     turn-found (x .codes .now) (x .lens .now) (x .s .now) (x .at) (x .end) i (l .before .loop .short) hc (l .loop-test .taken) narrow
     (b .first-bits .ensures .0) (b .first-bits .ensures .1) (j .compare .ensures) (c .before .enum-told .given .1) .0
     ∙ sym (l .before .loop .inv .1)
-
-enum-told-2 : tie.Need-enum-told-2 Inv-loop μ-loop
-enum-told-2 c = search needs
-
-enum-told-3 : tie.Need-enum-told-3 Inv-loop μ-loop
-enum-told-3 c = search needs
-
-add-i : tie.Need-add-i Inv-loop μ-loop
-add-i c = search needs
-
-loop-less : tie.Need-loop-less Inv-loop μ-loop
-loop-less c = search needs
 
 loop-again : tie.Need-loop-again Inv-loop μ-loop
 loop-again c =
@@ -134,25 +104,7 @@ returns-3 c =
 pub read-word-spec : {M : Type 1} → statement M
 read-word-spec =
     tie.close
-    (tie.spec
-    Inv-loop
-    μ-loop
-    first-bits-requires
-    loop-holds
-    mul-compare
-    shared-slice-read-compare
-    shared-slice-read-compare-2
-    compare-requires
-    enum-told
-    cast-t16
-    shared-slice-read-t18
-    cast-t19
-    add-t20
-    returns
-    enum-told-2
-    enum-told-3
-    add-i
-    loop-less
-    loop-again
-    returns-2
+    (tie.spec Inv-loop μ-loop (λ c κs. search needs) loop-holds (λ c. search needs) (λ c. search needs)
+    (λ c. search needs) compare-requires enum-told (λ c. search needs) (λ c. search needs) cast-t19 add-t20
+    returns (λ c. search needs) (λ c. search needs) (λ c. search needs) (λ c. search needs) loop-again returns-2
     returns-3)

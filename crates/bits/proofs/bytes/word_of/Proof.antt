@@ -4,18 +4,6 @@ use Rattle.bits.specs.Bytes.{wordOf}
 use Rattle.bits.proofs.bytes.word_of.Statement.{statement}
 use Rattle.bits.proofs.bytes.word_of.Tie as tie
 
-low-byte-requires : tie.Need-low-byte-requires
-low-byte-requires c κs = search needs
-
-low-byte-requires-2 : tie.Need-low-byte-requires-2
-low-byte-requires-2 c κs = search needs
-
-low-byte-requires-3 : tie.Need-low-byte-requires-3
-low-byte-requires-3 c κs = search needs
-
-low-byte-requires-4 : tie.Need-low-byte-requires-4
-low-byte-requires-4 c κs = search needs
-
 returns : tie.Need-returns
 unfolding wordOf
 returns c = rw (
@@ -28,9 +16,4 @@ returns c = rw (
 pub word-of-spec : {M : Type 1} → statement M
 word-of-spec =
     tie.close
-    (tie.spec
-    low-byte-requires
-    low-byte-requires-2
-    low-byte-requires-3
-    low-byte-requires-4
-    returns)
+    (tie.spec (λ c κs. search needs) (λ c κs. search needs) (λ c κs. search needs) (λ c κs. search needs) returns)

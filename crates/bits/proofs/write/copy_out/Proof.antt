@@ -19,9 +19,6 @@ put-requires c κs =
     let long = length-take-le (a .n) (a .scratch .now) (omega arith) in
     omega (arith, long)
 
-same-length : tie.Need-same-length
-same-length c = search needs
-
 returns : tie.Need-returns
 returns c =
     let entry = c .before .before .before .before .before .before .before in
@@ -30,4 +27,6 @@ returns c =
     c .before .before .put .ensures ∙ over-front (a .out .now) (take (a .n) (a .scratch .now)) (a .n) long
 
 pub copy-out-spec : {M : Type 1} → statement M
-copy-out-spec = tie.close (tie.spec slice-aggregate-put put-requires same-length returns)
+copy-out-spec =
+    tie.close
+    (tie.spec slice-aggregate-put put-requires (λ c. search needs) returns)

@@ -21,35 +21,14 @@ loop-holds : tie.Need-loop-holds Inv-loop μ-loop
 unfolding put
 loop-holds c = (search needs, refl, refl)
 
-add-b : tie.Need-add-b Inv-loop μ-loop
-add-b c = search needs
-
-sub-b : tie.Need-sub-b Inv-loop μ-loop
-sub-b c = search needs
-
-cast-b : tie.Need-cast-b Inv-loop μ-loop
-cast-b c = search needs
-
-shr-b : tie.Need-shr-b Inv-loop μ-loop
-shr-b c = search needs
-
 add-set-bit : tie.Need-add-set-bit Inv-loop μ-loop
 add-set-bit c = let h = c .before .before .before .before .pre in search needs
-
-cast-set-bit : tie.Need-cast-set-bit Inv-loop μ-loop
-cast-set-bit c = search needs
 
 set-bit-requires : tie.Need-set-bit-requires Inv-loop μ-loop
 set-bit-requires c κs =
     let h = c .before .before .before .before .pre in
     let l = c .before .before .loop .inv .1 in
     (omega arith, omega arith)
-
-add-k : tie.Need-add-k Inv-loop μ-loop
-add-k c = search needs
-
-loop-less : tie.Need-loop-less Inv-loop μ-loop
-loop-less c = search needs
 
 loop-again : tie.Need-loop-again Inv-loop μ-loop
 loop-again c =
@@ -61,9 +40,6 @@ loop-again c =
     ∙ put-more (a .out .now) (a .at) (a .v) (a .n) (l .loop .k) (search needs) in
     (search needs, ap length e ∙ put-length (a .out .now) (a .at) (a .v / 2 ^ (a .n - (l .loop .k + 1))) (l .loop .k + 1), e)
 
-same-length : tie.Need-same-length Inv-loop μ-loop
-same-length c = search needs
-
 returns : tie.Need-returns Inv-loop μ-loop
 returns c =
     let a = c .before .before .before .args in
@@ -74,19 +50,6 @@ returns c =
 pub put-bits-spec : {M : Type 1} → statement M
 put-bits-spec =
     tie.close
-    (tie.spec
-    Inv-loop
-    μ-loop
-    loop-holds
-    add-b
-    sub-b
-    cast-b
-    shr-b
-    add-set-bit
-    cast-set-bit
-    set-bit-requires
-    add-k
-    loop-less
-    loop-again
-    same-length
-    returns)
+    (tie.spec Inv-loop μ-loop loop-holds (λ c. search needs) (λ c. search needs) (λ c. search needs)
+    (λ c. search needs) add-set-bit (λ c. search needs) set-bit-requires (λ c. search needs) (λ c. search needs)
+    loop-again (λ c. search needs) returns)

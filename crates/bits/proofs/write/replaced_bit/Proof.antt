@@ -8,12 +8,6 @@ use borrow.Author.Needs.{needs}
 use Rattle.bits.proofs.write.replaced_bit.Statement.{statement}
 use Rattle.bits.proofs.write.replaced_bit.Tie as tie
 
-shl-m : tie.Need-shl-m
-shl-m c = search needs
-
-shr-result : tie.Need-shr-result
-shr-result c = search needs
-
 mul-result : tie.Need-mul-result
 mul-result c = rw (one-shl 64 (c .args .k) (omega arith))
     (omega (arith, bit-weight (c .args .x / 2 ^ c .args .k % 2) (c .args .k) (omega arith) (omega arith)))
@@ -40,4 +34,5 @@ returns c = rw (one-shl 64 (c .args .k) (omega arith))
 pub replaced-bit-spec : {M : Type 1} → statement M
 replaced-bit-spec =
     tie.close
-    (tie.spec shl-m shr-result mul-result sub-result mul-result-2 add-result cast-result returns)
+    (tie.spec (λ c. search needs) (λ c. search needs) mul-result sub-result mul-result-2 add-result cast-result
+    returns)

@@ -4,27 +4,6 @@ use Rattle.c_layout.specs.ContentsBytes.{allPhasesAt}
 use Rattle.c_layout.proofs.answers.all_phases_at.Statement.{statement}
 use Rattle.c_layout.proofs.answers.all_phases_at.Tie as tie
 
-phases-at-requires : tie.Need-phases-at-requires
-phases-at-requires c κs = search needs
-
-add-phases-at : tie.Need-add-phases-at
-add-phases-at c = search needs
-
-phases-at-requires-2 : tie.Need-phases-at-requires-2
-phases-at-requires-2 c κs = search needs
-
-add-phases-at-2 : tie.Need-add-phases-at-2
-add-phases-at-2 c = search needs
-
-phases-at-requires-3 : tie.Need-phases-at-requires-3
-phases-at-requires-3 c κs = search needs
-
-add-phases-at-3 : tie.Need-add-phases-at-3
-add-phases-at-3 c = search needs
-
-phases-at-requires-4 : tie.Need-phases-at-requires-4
-phases-at-requires-4 c κs = search needs
-
 returns : tie.Need-returns
 unfolding allPhasesAt
 returns c = rw (
@@ -37,12 +16,5 @@ returns c = rw (
 pub all-phases-at-spec : {M : Type 1} → statement M
 all-phases-at-spec =
     tie.close
-    (tie.spec
-    phases-at-requires
-    add-phases-at
-    phases-at-requires-2
-    add-phases-at-2
-    phases-at-requires-3
-    add-phases-at-3
-    phases-at-requires-4
-    returns)
+    (tie.spec (λ c κs. search needs) (λ c. search needs) (λ c κs. search needs) (λ c. search needs)
+    (λ c κs. search needs) (λ c. search needs) (λ c κs. search needs) returns)

@@ -4,45 +4,6 @@ use Rattle.c_layout.specs.ContentsBytes.{extensionAt}
 use Rattle.c_layout.proofs.answers.extension_at.Statement.{statement}
 use Rattle.c_layout.proofs.answers.extension_at.Tie as tie
 
-all-phases-at-requires : tie.Need-all-phases-at-requires
-all-phases-at-requires c κs = search needs
-
-shared-slice-read-wide : tie.Need-shared-slice-read-wide
-shared-slice-read-wide c = search needs
-
-wide-requires : tie.Need-wide-requires
-wide-requires c κs = search needs
-
-shared-slice-read-count-of : tie.Need-shared-slice-read-count-of
-shared-slice-read-count-of c = search needs
-
-count-of-requires : tie.Need-count-of-requires
-count-of-requires c κs = search needs
-
-shared-slice-read-wide-2 : tie.Need-shared-slice-read-wide-2
-shared-slice-read-wide-2 c = search needs
-
-wide-requires-2 : tie.Need-wide-requires-2
-wide-requires-2 c κs = search needs
-
-shared-slice-read-wide-3 : tie.Need-shared-slice-read-wide-3
-shared-slice-read-wide-3 c = search needs
-
-wide-requires-3 : tie.Need-wide-requires-3
-wide-requires-3 c κs = search needs
-
-shared-slice-read-wide-4 : tie.Need-shared-slice-read-wide-4
-shared-slice-read-wide-4 c = search needs
-
-wide-requires-4 : tie.Need-wide-requires-4
-wide-requires-4 c κs = search needs
-
-shared-slice-read-wide-5 : tie.Need-shared-slice-read-wide-5
-shared-slice-read-wide-5 c = search needs
-
-wide-requires-5 : tie.Need-wide-requires-5
-wide-requires-5 c κs = search needs
-
 returns : tie.Need-returns
 unfolding extensionAt
 returns c =
@@ -64,18 +25,6 @@ returns c =
 pub extension-at-spec : {M : Type 1} → statement M
 extension-at-spec =
     tie.close
-    (tie.spec
-    all-phases-at-requires
-    shared-slice-read-wide
-    wide-requires
-    shared-slice-read-count-of
-    count-of-requires
-    shared-slice-read-wide-2
-    wide-requires-2
-    shared-slice-read-wide-3
-    wide-requires-3
-    shared-slice-read-wide-4
-    wide-requires-4
-    shared-slice-read-wide-5
-    wide-requires-5
-    returns)
+    (tie.spec (λ c κs. search needs) (λ c. search needs) (λ c κs. search needs) (λ c. search needs)
+    (λ c κs. search needs) (λ c. search needs) (λ c κs. search needs) (λ c. search needs) (λ c κs. search needs)
+    (λ c. search needs) (λ c κs. search needs) (λ c. search needs) (λ c κs. search needs) returns)

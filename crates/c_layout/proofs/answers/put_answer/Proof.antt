@@ -7,15 +7,6 @@ use Rattle.bits.proofs.OverLaws.{put-next}
 use Rattle.c_layout.proofs.answers.put_answer.Statement.{statement}
 use Rattle.c_layout.proofs.answers.put_answer.Tie as tie
 
-put-head-requires : tie.Need-put-head-requires
-put-head-requires c κs = search needs
-
-put-envelopes-requires : tie.Need-put-envelopes-requires
-put-envelopes-requires c κs = search needs
-
-same-length : tie.Need-same-length
-same-length c = search needs
-
 returns : tie.Need-returns
 unfolding answerBytes
 returns c =
@@ -25,4 +16,6 @@ returns c =
     put-next s 0 _ 22 _ 560 (head .put-head .ensures) (rest .put-envelopes .ensures) (omega arith) .0
 
 pub put-answer-spec : {M : Type 1} → statement M
-put-answer-spec = tie.close (tie.spec put-head-requires put-envelopes-requires same-length returns)
+put-answer-spec =
+    tie.close
+    (tie.spec (λ c κs. search needs) (λ c κs. search needs) (λ c. search needs) returns)

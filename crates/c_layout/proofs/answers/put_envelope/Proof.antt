@@ -7,30 +7,6 @@ use Rattle.bits.proofs.OverLaws.{put-next}
 use Rattle.c_layout.proofs.answers.put_envelope.Statement.{statement}
 use Rattle.c_layout.proofs.answers.put_envelope.Tie as tie
 
-put-numbered-requires : tie.Need-put-numbered-requires
-put-numbered-requires c κs = search needs
-
-add-put-numbered : tie.Need-add-put-numbered
-add-put-numbered c = search needs
-
-put-numbered-requires-2 : tie.Need-put-numbered-requires-2
-put-numbered-requires-2 c κs = search needs
-
-add-put-numbered-2 : tie.Need-add-put-numbered-2
-add-put-numbered-2 c = search needs
-
-put-numbered-requires-3 : tie.Need-put-numbered-requires-3
-put-numbered-requires-3 c κs = search needs
-
-add-put-numbered-3 : tie.Need-add-put-numbered-3
-add-put-numbered-3 c = search needs
-
-put-numbered-requires-4 : tie.Need-put-numbered-requires-4
-put-numbered-requires-4 c κs = search needs
-
-same-length : tie.Need-same-length
-same-length c = search needs
-
 returns : tie.Need-returns
 unfolding envelopeBytes rowBytes
 returns c =
@@ -48,13 +24,5 @@ returns c =
 pub put-envelope-spec : {M : Type 1} → statement M
 put-envelope-spec =
     tie.close
-    (tie.spec
-    put-numbered-requires
-    add-put-numbered
-    put-numbered-requires-2
-    add-put-numbered-2
-    put-numbered-requires-3
-    add-put-numbered-3
-    put-numbered-requires-4
-    same-length
-    returns)
+    (tie.spec (λ c κs. search needs) (λ c. search needs) (λ c κs. search needs) (λ c. search needs)
+    (λ c κs. search needs) (λ c. search needs) (λ c κs. search needs) (λ c. search needs) returns)

@@ -23,39 +23,6 @@ loop-holds : tie.Need-loop-holds Inv-loop μ-loop
 unfolding envelopesBytes
 loop-holds c = (omega arith, search needs, search needs, search needs, refl, put-none (c .before .args .out .now) 22)
 
-mul-put-envelope : tie.Need-mul-put-envelope Inv-loop μ-loop
-mul-put-envelope c = search needs
-
-add-put-envelope : tie.Need-add-put-envelope Inv-loop μ-loop
-add-put-envelope c = search needs
-
-mul-put-envelope-2 : tie.Need-mul-put-envelope-2 Inv-loop μ-loop
-mul-put-envelope-2 c = search needs
-
-array-copy-out-put-envelope : tie.Need-array-copy-out-put-envelope Inv-loop μ-loop
-array-copy-out-put-envelope c = search needs
-
-mul-put-envelope-3 : tie.Need-mul-put-envelope-3 Inv-loop μ-loop
-mul-put-envelope-3 c = search needs
-
-array-copy-out-put-envelope-2 : tie.Need-array-copy-out-put-envelope-2 Inv-loop μ-loop
-array-copy-out-put-envelope-2 c = search needs
-
-mul-put-envelope-4 : tie.Need-mul-put-envelope-4 Inv-loop μ-loop
-mul-put-envelope-4 c = search needs
-
-array-copy-out-put-envelope-3 : tie.Need-array-copy-out-put-envelope-3 Inv-loop μ-loop
-array-copy-out-put-envelope-3 c = search needs
-
-put-envelope-requires : tie.Need-put-envelope-requires Inv-loop μ-loop
-put-envelope-requires c κs = search needs
-
-add-e : tie.Need-add-e Inv-loop μ-loop
-add-e c = search needs
-
-loop-less : tie.Need-loop-less Inv-loop μ-loop
-loop-less c = search needs
-
 loop-again : tie.Need-loop-again Inv-loop μ-loop
 loop-again c =
     let at-loop = c .before .before .before .before .before .before .before .before in
@@ -69,9 +36,6 @@ loop-again c =
     let more = envelopes-more (a .t2) (a .t3) (a .t4) (l .e) _ _ _ (omega arith) (omega arith) (omega arith) in
     (few, l .inv .1, l .inv .2, l .inv .3, long, put-as (a .out .now) 22 _ _ _ _ next more (omega arith))
 
-same-length : tie.Need-same-length Inv-loop μ-loop
-same-length c = search needs
-
 returns : tie.Need-returns Inv-loop μ-loop
 returns c =
     let l = c .before .loop in
@@ -81,21 +45,6 @@ returns c =
 pub put-envelopes-spec : {M : Type 1} → statement M
 put-envelopes-spec =
     tie.close
-    (tie.spec
-    Inv-loop
-    μ-loop
-    loop-holds
-    mul-put-envelope
-    add-put-envelope
-    mul-put-envelope-2
-    array-copy-out-put-envelope
-    mul-put-envelope-3
-    array-copy-out-put-envelope-2
-    mul-put-envelope-4
-    array-copy-out-put-envelope-3
-    put-envelope-requires
-    add-e
-    loop-less
-    loop-again
-    same-length
-    returns)
+    (tie.spec Inv-loop μ-loop loop-holds (λ c. search needs) (λ c. search needs) (λ c. search needs)
+    (λ c. search needs) (λ c. search needs) (λ c. search needs) (λ c. search needs) (λ c. search needs)
+    (λ c κs. search needs) (λ c. search needs) (λ c. search needs) loop-again (λ c. search needs) returns)

@@ -11,45 +11,6 @@ use Rattle.bits.proofs.OverLaws.{Put, put-next}
 use Rattle.c_layout.proofs.answers.put_head.Statement.{statement}
 use Rattle.c_layout.proofs.answers.put_head.Tie as tie
 
-word-of-requires : tie.Need-word-of-requires
-word-of-requires c κs = search needs
-
-slice-aggregate-put : tie.Need-slice-aggregate-put
-slice-aggregate-put c = search needs
-
-put-requires : tie.Need-put-requires
-put-requires c κs = search needs
-
-header-bytes-requires : tie.Need-header-bytes-requires
-header-bytes-requires c κs = search needs
-
-slice-aggregate-put-2 : tie.Need-slice-aggregate-put-2
-slice-aggregate-put-2 c = search needs
-
-put-requires-2 : tie.Need-put-requires-2
-put-requires-2 c κs = search needs
-
-frame-bytes-requires : tie.Need-frame-bytes-requires
-frame-bytes-requires c κs = search needs
-
-slice-aggregate-put-3 : tie.Need-slice-aggregate-put-3
-slice-aggregate-put-3 c = search needs
-
-put-requires-3 : tie.Need-put-requires-3
-put-requires-3 c κs = search needs
-
-extension-bytes-requires : tie.Need-extension-bytes-requires
-extension-bytes-requires c κs = search needs
-
-slice-aggregate-put-4 : tie.Need-slice-aggregate-put-4
-slice-aggregate-put-4 c = search needs
-
-put-requires-4 : tie.Need-put-requires-4
-put-requires-4 c κs = search needs
-
-same-length : tie.Need-same-length
-same-length c = search needs
-
 returns : tie.Need-returns
 unfolding answerHead wordOf
 returns c =
@@ -72,18 +33,6 @@ returns c =
 pub put-head-spec : {M : Type 1} → statement M
 put-head-spec =
     tie.close
-    (tie.spec
-    word-of-requires
-    slice-aggregate-put
-    put-requires
-    header-bytes-requires
-    slice-aggregate-put-2
-    put-requires-2
-    frame-bytes-requires
-    slice-aggregate-put-3
-    put-requires-3
-    extension-bytes-requires
-    slice-aggregate-put-4
-    put-requires-4
-    same-length
-    returns)
+    (tie.spec (λ c κs. search needs) (λ c. search needs) (λ c κs. search needs) (λ c κs. search needs)
+    (λ c. search needs) (λ c κs. search needs) (λ c κs. search needs) (λ c. search needs) (λ c κs. search needs)
+    (λ c κs. search needs) (λ c. search needs) (λ c κs. search needs) (λ c. search needs) returns)

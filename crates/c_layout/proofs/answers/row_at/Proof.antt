@@ -4,18 +4,6 @@ use Rattle.c_layout.specs.ContentsBytes.{rowAt}
 use Rattle.c_layout.proofs.answers.row_at.Statement.{statement}
 use Rattle.c_layout.proofs.answers.row_at.Tie as tie
 
-add-indices-at : tie.Need-add-indices-at
-add-indices-at c = search needs
-
-indices-at-requires : tie.Need-indices-at-requires
-indices-at-requires c κs = search needs
-
-shared-slice-read-wide : tie.Need-shared-slice-read-wide
-shared-slice-read-wide c = search needs
-
-wide-requires : tie.Need-wide-requires
-wide-requires c κs = search needs
-
 returns : tie.Need-returns
 unfolding rowAt
 returns c = rw (c .wide .ensures, c .before .before .indices-at .ensures)
@@ -23,4 +11,4 @@ returns c = rw (c .wide .ensures, c .before .before .indices-at .ensures)
 pub row-at-spec : {M : Type 1} → statement M
 row-at-spec =
     tie.close
-    (tie.spec add-indices-at indices-at-requires shared-slice-read-wide wide-requires returns)
+    (tie.spec (λ c. search needs) (λ c κs. search needs) (λ c. search needs) (λ c κs. search needs) returns)

@@ -4,27 +4,6 @@ use Rattle.c_layout.specs.ContentsBytes.{rowsAt}
 use Rattle.c_layout.proofs.answers.rows_at.Statement.{statement}
 use Rattle.c_layout.proofs.answers.rows_at.Tie as tie
 
-row-at-requires : tie.Need-row-at-requires
-row-at-requires c κs = search needs
-
-add-row-at : tie.Need-add-row-at
-add-row-at c = search needs
-
-row-at-requires-2 : tie.Need-row-at-requires-2
-row-at-requires-2 c κs = search needs
-
-add-row-at-2 : tie.Need-add-row-at-2
-add-row-at-2 c = search needs
-
-row-at-requires-3 : tie.Need-row-at-requires-3
-row-at-requires-3 c κs = search needs
-
-add-row-at-3 : tie.Need-add-row-at-3
-add-row-at-3 c = search needs
-
-row-at-requires-4 : tie.Need-row-at-requires-4
-row-at-requires-4 c κs = search needs
-
 returns : tie.Need-returns
 unfolding rowsAt
 returns c = rw (
@@ -37,12 +16,5 @@ returns c = rw (
 pub rows-at-spec : {M : Type 1} → statement M
 rows-at-spec =
     tie.close
-    (tie.spec
-    row-at-requires
-    add-row-at
-    row-at-requires-2
-    add-row-at-2
-    row-at-requires-3
-    add-row-at-3
-    row-at-requires-4
-    returns)
+    (tie.spec (λ c κs. search needs) (λ c. search needs) (λ c κs. search needs) (λ c. search needs)
+    (λ c κs. search needs) (λ c. search needs) (λ c κs. search needs) returns)

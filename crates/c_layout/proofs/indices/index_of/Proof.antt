@@ -9,12 +9,6 @@ use Rattle.c_layout.proofs.Turn.{lowered}
 use Rattle.c_layout.proofs.indices.index_of.Statement.{statement}
 use Rattle.c_layout.proofs.indices.index_of.Tie as tie
 
-cast-result : tie.Need-cast-result
-cast-result c = search needs
-
-cast-result-2 : tie.Need-cast-result-2
-cast-result-2 c = search needs
-
 sub-result : tie.Need-sub-result
 sub-result c =
     let b = c .before .args .b in
@@ -27,13 +21,12 @@ cast-result-3 c =
     let f = c .before .fits .b in
     rw (toZ-ofZ w16 _ (sub-result c), lowered b (c .if1 .left) (f .fits)) (toZ-fits w8 b f)
 
-returns : tie.Need-returns
-returns c = search needs
-
 returns-2 : tie.Need-returns-2
 returns-2 c =
     let b = c .before .args .b in
     toZ-ofZ w8 _ (cast-result-3 c) ∙ toZ-ofZ w16 _ (sub-result c) ∙ lowered b (c .if1 .left) (c .before .fits .b .fits)
 
 pub index-of-spec : {M : Type 1} → statement M
-index-of-spec = tie.close (tie.spec cast-result cast-result-2 sub-result cast-result-3 returns returns-2)
+index-of-spec =
+    tie.close
+    (tie.spec (λ c. search needs) (λ c. search needs) sub-result cast-result-3 (λ c. search needs) returns-2)

@@ -23,29 +23,8 @@ Inv-loop n indices out₀ i₀ out i = (i ≤ 34) × (length out ≡ 35) × (out
 abbrev μ-loop : tie.MeasureT-loop
 μ-loop n indices out₀ i₀ out i = 34 - i
 
-byte-of-requires : tie.Need-byte-of-requires Inv-loop μ-loop
-byte-of-requires c κs = search needs
-
 loop-holds : tie.Need-loop-holds Inv-loop μ-loop
 loop-holds c = (omega arith, refl, paste-zero (replicate 35 (c .byte-of .result)) 1 (map (ofZ w8) (c .before .args .t2)))
-
-array-copy-out-index-byte : tie.Need-array-copy-out-index-byte Inv-loop μ-loop
-array-copy-out-index-byte c = search needs
-
-index-byte-requires : tie.Need-index-byte-requires Inv-loop μ-loop
-index-byte-requires c κs = search needs
-
-add-out : tie.Need-add-out Inv-loop μ-loop
-add-out c = search needs
-
-array-write-out : tie.Need-array-write-out Inv-loop μ-loop
-array-write-out c = search needs
-
-add-i : tie.Need-add-i Inv-loop μ-loop
-add-i c = search needs
-
-loop-less : tie.Need-loop-less Inv-loop μ-loop
-loop-less c = search needs
 
 loop-again : tie.Need-loop-again Inv-loop μ-loop
 loop-again c =
@@ -73,16 +52,5 @@ returns c =
 pub numbered-bytes-spec : {M : Type 1} → statement M
 numbered-bytes-spec =
     tie.close
-    (tie.spec
-    Inv-loop
-    μ-loop
-    byte-of-requires
-    loop-holds
-    array-copy-out-index-byte
-    index-byte-requires
-    add-out
-    array-write-out
-    add-i
-    loop-less
-    loop-again
-    returns)
+    (tie.spec Inv-loop μ-loop (λ c κs. search needs) loop-holds (λ c. search needs) (λ c κs. search needs)
+    (λ c. search needs) (λ c. search needs) (λ c. search needs) (λ c. search needs) loop-again returns)

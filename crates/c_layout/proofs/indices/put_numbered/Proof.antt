@@ -5,18 +5,6 @@ use borrow.Author.Needs.{needs}
 use Rattle.c_layout.proofs.indices.put_numbered.Statement.{statement}
 use Rattle.c_layout.proofs.indices.put_numbered.Tie as tie
 
-numbered-bytes-requires : tie.Need-numbered-bytes-requires
-numbered-bytes-requires c κs = search needs
-
-slice-aggregate-put : tie.Need-slice-aggregate-put
-slice-aggregate-put c = search needs
-
-put-requires : tie.Need-put-requires
-put-requires c κs = search needs
-
-same-length : tie.Need-same-length
-same-length c = search needs
-
 returns : tie.Need-returns
 returns c =
     let all = c .before .before .before .before .before in
@@ -26,4 +14,4 @@ returns c =
 pub put-numbered-spec : {M : Type 1} → statement M
 put-numbered-spec =
     tie.close
-    (tie.spec numbered-bytes-requires slice-aggregate-put put-requires same-length returns)
+    (tie.spec (λ c κs. search needs) (λ c. search needs) (λ c κs. search needs) (λ c. search needs) returns)

@@ -4,24 +4,6 @@ use Rattle.c_layout.specs.StateBytes.{stateHead}
 use Rattle.c_layout.proofs.states.head_of.Statement.{statement}
 use Rattle.c_layout.proofs.states.head_of.Tie as tie
 
-flag-byte-requires : tie.Need-flag-byte-requires
-flag-byte-requires c κs = search needs
-
-flag-byte-requires-2 : tie.Need-flag-byte-requires-2
-flag-byte-requires-2 c κs = search needs
-
-flag-byte-requires-3 : tie.Need-flag-byte-requires-3
-flag-byte-requires-3 c κs = search needs
-
-byte-of-requires : tie.Need-byte-of-requires
-byte-of-requires c κs = search needs
-
-byte-of-requires-2 : tie.Need-byte-of-requires-2
-byte-of-requires-2 c κs = search needs
-
-flag-byte-requires-4 : tie.Need-flag-byte-requires-4
-flag-byte-requires-4 c κs = search needs
-
 returns : tie.Need-returns
 unfolding stateHead
 returns c = rw (
@@ -36,11 +18,5 @@ returns c = rw (
 pub head-of-spec : {M : Type 1} → statement M
 head-of-spec =
     tie.close
-    (tie.spec
-    flag-byte-requires
-    flag-byte-requires-2
-    flag-byte-requires-3
-    byte-of-requires
-    byte-of-requires-2
-    flag-byte-requires-4
-    returns)
+    (tie.spec (λ c κs. search needs) (λ c κs. search needs) (λ c κs. search needs) (λ c κs. search needs)
+    (λ c κs. search needs) (λ c κs. search needs) returns)

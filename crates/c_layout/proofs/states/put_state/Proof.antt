@@ -10,30 +10,6 @@ use Rattle.bits.proofs.OverLaws.{Put, put-next}
 use Rattle.c_layout.proofs.states.put_state.Statement.{statement}
 use Rattle.c_layout.proofs.states.put_state.Tie as tie
 
-head-of-requires : tie.Need-head-of-requires
-head-of-requires c κs = search needs
-
-slice-aggregate-put : tie.Need-slice-aggregate-put
-slice-aggregate-put c = search needs
-
-put-requires : tie.Need-put-requires
-put-requires c κs = search needs
-
-put-numbered-requires : tie.Need-put-numbered-requires
-put-numbered-requires c κs = search needs
-
-put-numbered-requires-2 : tie.Need-put-numbered-requires-2
-put-numbered-requires-2 c κs = search needs
-
-put-numbered-requires-3 : tie.Need-put-numbered-requires-3
-put-numbered-requires-3 c κs = search needs
-
-put-numbered-requires-4 : tie.Need-put-numbered-requires-4
-put-numbered-requires-4 c κs = search needs
-
-same-length : tie.Need-same-length
-same-length c = search needs
-
 returns : tie.Need-returns
 unfolding stateBytes stateHead recordBytes
 returns c =
@@ -56,13 +32,5 @@ returns c =
 pub put-state-spec : {M : Type 1} → statement M
 put-state-spec =
     tie.close
-    (tie.spec
-    head-of-requires
-    slice-aggregate-put
-    put-requires
-    put-numbered-requires
-    put-numbered-requires-2
-    put-numbered-requires-3
-    put-numbered-requires-4
-    same-length
-    returns)
+    (tie.spec (λ c κs. search needs) (λ c. search needs) (λ c κs. search needs) (λ c κs. search needs)
+    (λ c κs. search needs) (λ c κs. search needs) (λ c κs. search needs) (λ c. search needs) returns)

@@ -14,15 +14,10 @@ sub-result c = negated (c .before .args .n) (c .before .fits .n)
 cast-result : tie.Need-cast-result
 cast-result c = below (c .before .args .n) (c .before .fits .n) (c .if1 .taken)
 
-returns : tie.Need-returns
-returns c = search needs
-
 cast-result-2 : tie.Need-cast-result-2
 cast-result-2 c = above (c .before .args .n) (c .before .fits .n) (c .if1 .left)
 
-returns-2 : tie.Need-returns-2
-returns-2 c = search needs
-
 pub magnitude-spec : {M : Type 1} → statement M
 magnitude-spec =
-    tie.close (tie.spec cast-wide sub-result cast-result returns cast-result-2 returns-2)
+    tie.close
+    (tie.spec cast-wide sub-result cast-result (λ c. search needs) cast-result-2 (λ c. search needs))

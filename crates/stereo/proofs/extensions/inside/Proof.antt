@@ -4,12 +4,6 @@ use borrow.Author.Needs.{needs}
 use Rattle.stereo.proofs.extensions.inside.Statement.{statement}
 use Rattle.stereo.proofs.extensions.inside.Tie as tie
 
-enum-known-ended : tie.Need-enum-known-ended
-enum-known-ended c = search needs
-
-enum-known-ended-2 : tie.Need-enum-known-ended-2
-enum-known-ended-2 c = search needs
-
 returns : tie.Need-returns
 returns c = rw (c .before .before .ended2 .given .1, eq-eqb _ _ (c .if1 .taken))
 
@@ -20,4 +14,6 @@ returns-3 : tie.Need-returns-3
 returns-3 c = rw (c .before .before .ended2 .given .1, ne-eqb _ _ (c .if1 .left))
 
 pub inside-spec : {M : Type 1} → statement M
-inside-spec = tie.close (tie.spec enum-known-ended enum-known-ended-2 returns returns-2 returns-3)
+inside-spec =
+    tie.close
+    (tie.spec (λ c. search needs) (λ c. search needs) returns returns-2 returns-3)

@@ -4,12 +4,9 @@ use borrow.Author.Needs.{needs}
 use Rattle.stereo.proofs.extensions.no_extension.Statement.{statement}
 use Rattle.stereo.proofs.extensions.no_extension.Tie as tie
 
-no-part-requires : tie.Need-no-part-requires
-no-part-requires c κs = search needs
-
 returns : tie.Need-returns
 unfolding noExtension
 returns c = rw (c .no-part .ensures)
 
 pub no-extension-spec : {M : Type 1} → statement M
-no-extension-spec = tie.close (tie.spec no-part-requires returns)
+no-extension-spec = tie.close (tie.spec (λ c κs. search needs) returns)

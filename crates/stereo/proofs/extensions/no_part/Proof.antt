@@ -4,12 +4,9 @@ use borrow.Author.Needs.{needs}
 use Rattle.stereo.proofs.extensions.no_part.Statement.{statement}
 use Rattle.stereo.proofs.extensions.no_part.Tie as tie
 
-no-body-requires : tie.Need-no-body-requires
-no-body-requires c κs = search needs
-
 returns : tie.Need-returns
 unfolding noPart
 returns c = rw (c .no-body .ensures)
 
 pub no-part-spec : {M : Type 1} → statement M
-no-part-spec = tie.close (tie.spec no-body-requires returns)
+no-part-spec = tie.close (tie.spec (λ c κs. search needs) returns)

@@ -4,12 +4,9 @@ use borrow.Author.Needs.{needs}
 use Rattle.stereo.proofs.extensions.no_phases.Statement.{statement}
 use Rattle.stereo.proofs.extensions.no_phases.Tie as tie
 
-no-row-requires : tie.Need-no-row-requires
-no-row-requires c κs = search needs
-
 returns : tie.Need-returns
 unfolding noPhases
 returns c = rw (c .no-row .ensures)
 
 pub no-phases-spec : {M : Type 1} → statement M
-no-phases-spec = tie.close (tie.spec no-row-requires returns)
+no-phases-spec = tie.close (tie.spec (λ c κs. search needs) returns)

@@ -6,15 +6,9 @@ use borrow.Author.Needs.{needs}
 use Rattle.stereo.proofs.extensions.read_all_phases.Statement.{statement}
 use Rattle.stereo.proofs.extensions.read_all_phases.Tie as tie
 
-read-phases-of-requires : tie.Need-read-phases-of-requires
-read-phases-of-requires c κs = search needs
-
 returns : tie.Need-returns
 unfolding phases
 returns c = c .read-phases-of .ensures ∙ rw (eq-eqb _ _ (c .before .if1 .taken))
-
-none-of-four-requires : tie.Need-none-of-four-requires
-none-of-four-requires c κs = search needs
 
 returns-2 : tie.Need-returns-2
 unfolding phases
@@ -22,4 +16,5 @@ returns-2 c = rw (ne-eqb _ _ (c .before .if1 .left), c .none-of-four .ensures)
 
 pub read-all-phases-spec : {M : Type 1} → statement M
 read-all-phases-spec =
-    tie.close (tie.spec read-phases-of-requires returns none-of-four-requires returns-2)
+    tie.close
+    (tie.spec (λ c κs. search needs) returns (λ c κs. search needs) returns-2)

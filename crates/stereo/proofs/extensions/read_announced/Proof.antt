@@ -17,20 +17,8 @@ short at end left bits e h = omega arith
 there : (at end left size : ℕ) → (size ≡ 0 → ⊥) → left ≡ end - at → 8 * size ≤ left → at + 8 * size ≤ end
 there at end left size z e h = omega arith
 
-no-part-requires : tie.Need-no-part-requires
-no-part-requires c κs = search needs
-
 returns : tie.Need-returns
 returns c = rw (c .no-part .ensures) (announced-none _ _ _ _ _ _ _ _ (c .before .if1 .taken))
-
-mul-bits : tie.Need-mul-bits
-mul-bits c = search needs
-
-remaining-requires : tie.Need-remaining-requires
-remaining-requires c κs = search needs
-
-no-part-requires-2 : tie.Need-no-part-requires-2
-no-part-requires-2 c κs = search needs
 
 returns-2 : tie.Need-returns-2
 returns-2 c =
@@ -38,15 +26,6 @@ returns-2 c =
     let a = r .before .before .before .before .before .args in
     let l : a .end < a .at + 8 * a .size = short _ _ _ _ (r .remaining .ensures) (c .before .if2 .taken) in
     announced-short _ _ _ _ _ _ _ _ (r .before .if1 .left) l
-
-add-read-part : tie.Need-add-read-part
-add-read-part c = search needs
-
-read-part-requires : tie.Need-read-part-requires
-read-part-requires c κs = search needs
-
-inside-requires : tie.Need-inside-requires
-inside-requires c κs = search needs
 
 returns-3 : tie.Need-returns-3
 returns-3 c =
@@ -61,14 +40,5 @@ returns-3 c =
 pub read-announced-spec : {M : Type 1} → statement M
 read-announced-spec =
     tie.close
-    (tie.spec
-    no-part-requires
-    returns
-    mul-bits
-    remaining-requires
-    no-part-requires-2
-    returns-2
-    add-read-part
-    read-part-requires
-    inside-requires
-    returns-3)
+    (tie.spec (λ c κs. search needs) returns (λ c. search needs) (λ c κs. search needs) (λ c κs. search needs)
+    returns-2 (λ c. search needs) (λ c κs. search needs) (λ c κs. search needs) returns-3)

@@ -6,9 +6,6 @@ use borrow.Author.Needs.{needs}
 use Rattle.stereo.proofs.extensions.read_esc.Statement.{statement}
 use Rattle.stereo.proofs.extensions.read_esc.Tie as tie
 
-read-field-requires : tie.Need-read-field-requires
-read-field-requires c κs = search needs
-
 returns : tie.Need-returns
 unfolding escCount
 returns c = c .read-field .ensures ∙ rw (eq-eqb _ _ (c .before .if1 .taken))
@@ -18,4 +15,4 @@ unfolding escCount
 returns-2 c = rw (ne-eqb _ _ (c .if1 .left))
 
 pub read-esc-spec : {M : Type 1} → statement M
-read-esc-spec = tie.close (tie.spec read-field-requires returns returns-2)
+read-esc-spec = tie.close (tie.spec (λ c κs. search needs) returns returns-2)

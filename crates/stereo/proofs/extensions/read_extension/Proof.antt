@@ -5,15 +5,9 @@ use borrow.Author.Needs.{needs}
 use Rattle.stereo.proofs.extensions.read_extension.Statement.{statement}
 use Rattle.stereo.proofs.extensions.read_extension.Tie as tie
 
-read-extension-sent-requires : tie.Need-read-extension-sent-requires
-read-extension-sent-requires c κs = search needs
-
 returns : tie.Need-returns
 unfolding extension
 returns c = c .read-extension-sent .ensures ∙ rw (c .before .if1 .taken)
-
-no-extension-requires : tie.Need-no-extension-requires
-no-extension-requires c κs = search needs
 
 returns-2 : tie.Need-returns-2
 unfolding extension
@@ -21,4 +15,5 @@ returns-2 c = rw (c .before .if1 .left, c .no-extension .ensures)
 
 pub read-extension-spec : {M : Type 1} → statement M
 read-extension-spec =
-    tie.close (tie.spec read-extension-sent-requires returns no-extension-requires returns-2)
+    tie.close
+    (tie.spec (λ c κs. search needs) returns (λ c κs. search needs) returns-2)

@@ -23,17 +23,8 @@ size-le c =
     esc-below _ _ _ _ _ _ (answered (at-esc .read-esc .ensures) (got-esc .esc-field .given .1)) in
     omega arith
 
-read-field-requires : tie.Need-read-field-requires
-read-field-requires c κs = search needs
-
-enum-known-size-field : tie.Need-enum-known-size-field
-enum-known-size-field c = search needs
-
 enum-told : tie.Need-enum-told
 enum-told c = search needs
-
-refused-extension-requires : tie.Need-refused-extension-requires
-refused-extension-requires c κs = search needs
 
 returns : tie.Need-returns
 unfolding extensionSent
@@ -41,18 +32,6 @@ returns c =
     let at-size = c .before .before .before in
     passed _ (c .refused-extension .ensures) (c .before .enum-told .given .1)
     ∙ rw (answered (at-size .read-field .ensures) (c .before .enum-told .given .1))
-
-read-esc-requires : tie.Need-read-esc-requires
-read-esc-requires c κs = search needs
-
-enum-known-esc-field : tie.Need-enum-known-esc-field
-enum-known-esc-field c = search needs
-
-enum-told-2 : tie.Need-enum-told-2
-enum-told-2 c = search needs
-
-refused-extension-requires-2 : tie.Need-refused-extension-requires-2
-refused-extension-requires-2 c κs = search needs
 
 returns-2 : tie.Need-returns-2
 unfolding extensionSent
@@ -67,9 +46,6 @@ returns-2 c =
 
 add-total : tie.Need-add-total
 add-total c = let l = size-le c in record { fits = omega arith }
-
-cast-total : tie.Need-cast-total
-cast-total c = search needs
 
 read-announced-requires : tie.Need-read-announced-requires
 read-announced-requires c κs =
@@ -90,18 +66,6 @@ returns-3 c =
 pub read-extension-sent-spec : {M : Type 1} → statement M
 read-extension-sent-spec =
     tie.close
-    (tie.spec
-    read-field-requires
-    enum-known-size-field
-    enum-told
-    refused-extension-requires
-    returns
-    read-esc-requires
-    enum-known-esc-field
-    enum-told-2
-    refused-extension-requires-2
-    returns-2
-    add-total
-    cast-total
-    read-announced-requires
-    returns-3)
+    (tie.spec (λ c κs. search needs) (λ c. search needs) enum-told (λ c κs. search needs) returns
+    (λ c κs. search needs) (λ c. search needs) (λ c. search needs) (λ c κs. search needs) returns-2 add-total
+    (λ c. search needs) read-announced-requires returns-3)

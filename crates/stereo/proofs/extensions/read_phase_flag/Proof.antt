@@ -8,12 +8,6 @@ use borrow.Author.Needs.{needs}
 use Rattle.stereo.proofs.extensions.read_phase_flag.Statement.{statement}
 use Rattle.stereo.proofs.extensions.read_phase_flag.Tie as tie
 
-read-field-requires : tie.Need-read-field-requires
-read-field-requires c κs = search needs
-
-enum-known-id-field : tie.Need-enum-known-id-field
-enum-known-id-field c = search needs
-
 enum-told : tie.Need-enum-told
 enum-told c = search needs
 
@@ -29,15 +23,6 @@ returns-2 c =
     let got-id = c .before .before in
     rw (answered (got-id .before .before .read-field .ensures) (got-id .id-field .given .1), ne-eqb _ _ (c .if1 .taken))
 
-read-field-requires-2 : tie.Need-read-field-requires-2
-read-field-requires-2 c κs = search needs
-
-enum-known-flag-field : tie.Need-enum-known-flag-field
-enum-known-flag-field c = search needs
-
-enum-told-2 : tie.Need-enum-told-2
-enum-told-2 c = search needs
-
 returns-3 : tie.Need-returns-3
 unfolding phaseFlag
 returns-3 c =
@@ -49,9 +34,6 @@ returns-3 c =
       eq-eqb _ _ (at-flag .before .if1 .left),
       answered (at-flag .read-field2 .ensures) t,
     )
-
-has-mode-requires : tie.Need-has-mode-requires
-has-mode-requires c κs = search needs
 
 returns-4 : tie.Need-returns-4
 unfolding phaseFlag
@@ -82,16 +64,5 @@ returns-5 c =
 pub read-phase-flag-spec : {M : Type 1} → statement M
 read-phase-flag-spec =
     tie.close
-    (tie.spec
-    read-field-requires
-    enum-known-id-field
-    enum-told
-    returns
-    returns-2
-    read-field-requires-2
-    enum-known-flag-field
-    enum-told-2
-    returns-3
-    has-mode-requires
-    returns-4
-    returns-5)
+    (tie.spec (λ c κs. search needs) (λ c. search needs) enum-told returns returns-2 (λ c κs. search needs)
+    (λ c. search needs) (λ c. search needs) returns-3 (λ c κs. search needs) returns-4 returns-5)

@@ -8,20 +8,8 @@ use borrow.Author.Needs.{needs}
 use Rattle.stereo.proofs.extensions.read_phases.Statement.{statement}
 use Rattle.stereo.proofs.extensions.read_phases.Tie as tie
 
-read-row-requires : tie.Need-read-row-requires
-read-row-requires c κs = search needs
-
-enum-known-ended : tie.Need-enum-known-ended
-enum-known-ended c = search needs
-
-read-row-requires-2 : tie.Need-read-row-requires-2
-read-row-requires-2 c κs = search needs
-
 enum-told : tie.Need-enum-told
 enum-told c = search needs
-
-no-phases-requires : tie.Need-no-phases-requires
-no-phases-requires c κs = search needs
 
 returns : tie.Need-returns
 returns c =
@@ -41,11 +29,5 @@ returns-2 c =
 pub read-phases-spec : {M : Type 1} → statement M
 read-phases-spec =
     tie.close
-    (tie.spec
-    read-row-requires
-    enum-known-ended
-    read-row-requires-2
-    enum-told
-    no-phases-requires
-    returns
-    returns-2)
+    (tie.spec (λ c κs. search needs) (λ c. search needs) (λ c κs. search needs) enum-told (λ c κs. search needs)
+    returns returns-2)

@@ -45,9 +45,6 @@ Inv-loop s at end mode n codes lens phases₀ last₀ place₀ k₀ phases last 
 abbrev μ-loop : tie.MeasureT-loop
 μ-loop s at end mode n codes lens phases₀ last₀ place₀ k₀ phases last place k = n - k
 
-none-of-four-requires : tie.Need-none-of-four-requires Inv-loop μ-loop
-none-of-four-requires c κs = search needs
-
 loop-holds : tie.Need-loop-holds Inv-loop μ-loop
 loop-holds c =
     let a = c .before .before .before .before .args in
@@ -62,18 +59,6 @@ read-phases-requires : tie.Need-read-phases-requires Inv-loop μ-loop
 read-phases-requires c κs =
     let entry = c .before .before .before .before .before .before in
     let p = entry .pre in (p .0, p .1)
-
-left-by-requires : tie.Need-left-by-requires Inv-loop μ-loop
-left-by-requires c κs = search needs
-
-enum-known-ended : tie.Need-enum-known-ended Inv-loop μ-loop
-enum-known-ended c = search needs
-
-mul-phases : tie.Need-mul-phases Inv-loop μ-loop
-mul-phases c = search needs
-
-array-set-from-phases : tie.Need-array-set-from-phases Inv-loop μ-loop
-array-set-from-phases c = search needs
 
 enum-told : tie.Need-enum-told Inv-loop μ-loop
 enum-told c = search needs
@@ -102,12 +87,6 @@ returns c =
     (more-refused f (l .k) (take (l .k) (l .phases)) (a .s .now) (l .place) (a .end) _ _ q) in
     ap (λ (x : Ended). endedAnswer x (l .phases)) told
     ∙ all-refused (a .mode) (a .records .ipd) (a .records .opd) (a .s .now) (a .at) (a .end) (a .n) _ _ e
-
-add-k : tie.Need-add-k Inv-loop μ-loop
-add-k c = search needs
-
-loop-less : tie.Need-loop-less Inv-loop μ-loop
-loop-less c = search needs
 
 loop-again : tie.Need-loop-again Inv-loop μ-loop
 loop-again c =
@@ -143,19 +122,6 @@ returns-2 c =
 pub read-phases-of-spec : {M : Type 1} → statement M
 read-phases-of-spec =
     tie.close
-    (tie.spec
-    Inv-loop
-    μ-loop
-    none-of-four-requires
-    loop-holds
-    read-phases-requires
-    enum-known-ended
-    left-by-requires
-    mul-phases
-    array-set-from-phases
-    enum-told
-    returns
-    add-k
-    loop-less
-    loop-again
-    returns-2)
+    (tie.spec Inv-loop μ-loop (λ c κs. search needs) loop-holds read-phases-requires (λ c. search needs)
+    (λ c κs. search needs) (λ c. search needs) (λ c. search needs) enum-told returns (λ c. search needs)
+    (λ c. search needs) loop-again returns-2)

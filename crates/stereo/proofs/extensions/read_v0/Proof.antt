@@ -10,20 +10,8 @@ use borrow.Author.Needs.{needs}
 use Rattle.stereo.proofs.extensions.read_v0.Statement.{statement}
 use Rattle.stereo.proofs.extensions.read_v0.Tie as tie
 
-read-phase-flag-requires : tie.Need-read-phase-flag-requires
-read-phase-flag-requires c κs = search needs
-
-enum-known-flag-field : tie.Need-enum-known-flag-field
-enum-known-flag-field c = search needs
-
 enum-told : tie.Need-enum-told
 enum-told c = search needs
-
-passed-on-requires : tie.Need-passed-on-requires
-passed-on-requires c κs = search needs
-
-refused-body-requires : tie.Need-refused-body-requires
-refused-body-requires c κs = search needs
 
 returns : tie.Need-returns
 returns c =
@@ -31,18 +19,6 @@ returns c =
     let f = c .before .before .before .before in
     passed _ (c .refused-body .ensures ∙ c .before .passed-on .ensures) t
     ∙ v0-refused _ _ _ _ _ _ _ _ _ (answered (f .read-phase-flag .ensures) t)
-
-read-all-phases-requires : tie.Need-read-all-phases-requires
-read-all-phases-requires c κs = search needs
-
-enum-known-phases-ended : tie.Need-enum-known-phases-ended
-enum-known-phases-ended c = search needs
-
-enum-told-2 : tie.Need-enum-told-2
-enum-told-2 c = search needs
-
-refused-body-requires-2 : tie.Need-refused-body-requires-2
-refused-body-requires-2 c κs = search needs
 
 returns-2 : tie.Need-returns-2
 returns-2 c =
@@ -52,12 +28,6 @@ returns-2 c =
     ap (λ (x : Ended). endedAnswer x (c .refused-body2 .result .body)) (c .refused-body2 .ensures ∙ t)
     ∙ v0-cut _ _ _ _ _ _ _ _ _ _ _ (answered (k .before .before .read-phase-flag .ensures) (k .flag-field .given .1))
     (ended-is (r .read-all-phases .result .phases) (r .read-all-phases .ensures) t)
-
-read-unset-bit-requires : tie.Need-read-unset-bit-requires
-read-unset-bit-requires c κs = search needs
-
-passed-on-requires-2 : tie.Need-passed-on-requires-2
-passed-on-requires-2 c κs = search needs
 
 returns-3 : tie.Need-returns-3
 returns-3 c =
@@ -74,18 +44,6 @@ returns-3 c =
 pub read-v0-spec : {M : Type 1} → statement M
 read-v0-spec =
     tie.close
-    (tie.spec
-    read-phase-flag-requires
-    enum-known-flag-field
-    enum-told
-    passed-on-requires
-    refused-body-requires
-    returns
-    read-all-phases-requires
-    enum-known-phases-ended
-    enum-told-2
-    refused-body-requires-2
-    returns-2
-    read-unset-bit-requires
-    passed-on-requires-2
-    returns-3)
+    (tie.spec (λ c κs. search needs) (λ c. search needs) enum-told (λ c κs. search needs) (λ c κs. search needs)
+    returns (λ c κs. search needs) (λ c. search needs) (λ c. search needs) (λ c κs. search needs) returns-2
+    (λ c κs. search needs) (λ c κs. search needs) returns-3)

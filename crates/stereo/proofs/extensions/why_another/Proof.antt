@@ -4,9 +4,6 @@ use borrow.Author.Needs.{needs}
 use Rattle.stereo.proofs.extensions.why_another.Statement.{statement}
 use Rattle.stereo.proofs.extensions.why_another.Tie as tie
 
-bits-at-requires : tie.Need-bits-at-requires
-bits-at-requires c κs = search needs
-
 returns : tie.Need-returns
 returns c = rw (← c .before .bits-at .ensures, eq-eqb _ _ (c .if1 .taken))
 
@@ -14,4 +11,4 @@ returns-2 : tie.Need-returns-2
 returns-2 c = rw (← c .before .bits-at .ensures, ne-eqb _ _ (c .if1 .left))
 
 pub why-another-spec : {M : Type 1} → statement M
-why-another-spec = tie.close (tie.spec bits-at-requires returns returns-2)
+why-another-spec = tie.close (tie.spec (λ c κs. search needs) returns returns-2)

@@ -6,9 +6,6 @@ use borrow.Author.Needs.{needs}
 use Rattle.stereo.proofs.frames.envelope_count.Statement.{statement}
 use Rattle.stereo.proofs.frames.envelope_count.Tie as tie
 
-add-result : tie.Need-add-result
-add-result c = search needs
-
 returns : tie.Need-returns
 unfolding envelopeCount
 returns c = (rw (eq-eqb _ _ (c .if1 .taken)), omega arith)
@@ -22,4 +19,6 @@ unfolding envelopeCount
 returns-3 c = (rw (ne-eqb _ _ (c .before .if1 .left), ne-eqb _ _ (c .if2 .left)), omega arith)
 
 pub envelope-count-spec : {M : Type 1} → statement M
-envelope-count-spec = tie.close (tie.spec add-result returns returns-2 returns-3)
+envelope-count-spec =
+    tie.close
+    (tie.spec (λ c. search needs) returns returns-2 returns-3)

@@ -4,12 +4,9 @@ use borrow.Author.Needs.{needs}
 use Rattle.stereo.proofs.frames.no_frame.Statement.{statement}
 use Rattle.stereo.proofs.frames.no_frame.Tie as tie
 
-no-borders-requires : tie.Need-no-borders-requires
-no-borders-requires c κs = search needs
-
 returns : tie.Need-returns
 unfolding noFrame
 returns c = rw (c .no-borders .ensures)
 
 pub no-frame-spec : {M : Type 1} → statement M
-no-frame-spec = tie.close (tie.spec no-borders-requires returns)
+no-frame-spec = tie.close (tie.spec (λ c κs. search needs) returns)

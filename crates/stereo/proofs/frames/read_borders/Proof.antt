@@ -6,15 +6,9 @@ use borrow.Author.Needs.{needs}
 use Rattle.stereo.proofs.frames.read_borders.Statement.{statement}
 use Rattle.stereo.proofs.frames.read_borders.Tie as tie
 
-read-borders-of-requires : tie.Need-read-borders-of-requires
-read-borders-of-requires c κs = search needs
-
 returns : tie.Need-returns
 unfolding borders
 returns c = c .read-borders-of .ensures ∙ rw (eq-eqb _ _ (c .before .if1 .taken))
-
-no-borders-requires : tie.Need-no-borders-requires
-no-borders-requires c κs = search needs
 
 returns-2 : tie.Need-returns-2
 unfolding borders
@@ -22,4 +16,5 @@ returns-2 c = rw (ne-eqb _ _ (c .before .if1 .left), c .no-borders .ensures)
 
 pub read-borders-spec : {M : Type 1} → statement M
 read-borders-spec =
-    tie.close (tie.spec read-borders-of-requires returns no-borders-requires returns-2)
+    tie.close
+    (tie.spec (λ c κs. search needs) returns (λ c κs. search needs) returns-2)

@@ -31,9 +31,6 @@ Inv-loop s at end n borders₀ place₀ k₀ borders place k = Inv s at end n bo
 abbrev μ-loop : tie.MeasureT-loop
 μ-loop s at end n borders₀ place₀ k₀ borders place k = n - k
 
-no-borders-requires : tie.Need-no-borders-requires Inv-loop μ-loop
-no-borders-requires c κs = search needs
-
 loop-holds : tie.Need-loop-holds Inv-loop μ-loop
 unfolding noBorders
 loop-holds c =
@@ -47,18 +44,6 @@ loop-holds c =
 read-field-requires : tie.Need-read-field-requires Inv-loop μ-loop
 read-field-requires c κs = (c .before .before .before .before .pre .0, omega arith)
 
-enum-known-border : tie.Need-enum-known-border Inv-loop μ-loop
-enum-known-border c = search needs
-
-mul-borders : tie.Need-mul-borders Inv-loop μ-loop
-mul-borders c = search needs
-
-array-write-borders : tie.Need-array-write-borders Inv-loop μ-loop
-array-write-borders c = search needs
-
-enum-known-number : tie.Need-enum-known-number Inv-loop μ-loop
-enum-known-number c = search needs
-
 returns : tie.Need-returns Inv-loop μ-loop
 returns c =
     let p = c .before .before .before in
@@ -69,12 +54,6 @@ returns c =
     (p .before .loop-test .taken)
     (more-refused next (l .k) (take (l .k) (l .borders)) (a .s .now) (l .place) (a .end) _ _ q) in
     borders-refused (a .n) (a .s .now) (a .at) (a .end) _ _ e
-
-add-k : tie.Need-add-k Inv-loop μ-loop
-add-k c = search needs
-
-loop-less : tie.Need-loop-less Inv-loop μ-loop
-loop-less c = search needs
 
 loop-again : tie.Need-loop-again Inv-loop μ-loop
 loop-again c =
@@ -105,18 +84,6 @@ returns-2 c =
 pub read-borders-of-spec : {M : Type 1} → statement M
 read-borders-of-spec =
     tie.close
-    (tie.spec
-    Inv-loop
-    μ-loop
-    no-borders-requires
-    loop-holds
-    read-field-requires
-    enum-known-border
-    mul-borders
-    array-write-borders
-    enum-known-number
-    returns
-    add-k
-    loop-less
-    loop-again
-    returns-2)
+    (tie.spec Inv-loop μ-loop (λ c κs. search needs) loop-holds read-field-requires (λ c. search needs)
+    (λ c. search needs) (λ c. search needs) (λ c. search needs) returns (λ c. search needs) (λ c. search needs)
+    loop-again returns-2)

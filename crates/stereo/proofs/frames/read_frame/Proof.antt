@@ -10,17 +10,8 @@ use borrow.Author.Needs.{needs}
 use Rattle.stereo.proofs.frames.read_frame.Statement.{statement}
 use Rattle.stereo.proofs.frames.read_frame.Tie as tie
 
-read-field-requires : tie.Need-read-field-requires
-read-field-requires c κs = search needs
-
-enum-known-class-field : tie.Need-enum-known-class-field
-enum-known-class-field c = search needs
-
 enum-told : tie.Need-enum-told
 enum-told c = search needs
-
-refused-frame-requires : tie.Need-refused-frame-requires
-refused-frame-requires c κs = search needs
 
 returns : tie.Need-returns
 unfolding frame
@@ -30,18 +21,6 @@ returns c =
           ∙ rw (answered (at-class .read-field .ensures) (c .before .enum-told .given .1)),
       c .refused-frame .ensures .1,
     )
-
-read-field-requires-2 : tie.Need-read-field-requires-2
-read-field-requires-2 c κs = search needs
-
-enum-known-index-field : tie.Need-enum-known-index-field
-enum-known-index-field c = search needs
-
-enum-told-2 : tie.Need-enum-told-2
-enum-told-2 c = search needs
-
-refused-frame-requires-2 : tie.Need-refused-frame-requires-2
-refused-frame-requires-2 c κs = search needs
 
 returns-2 : tie.Need-returns-2
 unfolding frame
@@ -63,9 +42,6 @@ envelope-count-requires c κs =
     field-below 2 _ _ _ _ _ (answered (got-index .before .before .read-field2 .ensures) (got-index .index-field .given .1)) in
     omega arith
 
-read-borders-requires : tie.Need-read-borders-requires
-read-borders-requires c κs = search needs
-
 returns-3 : tie.Need-returns-3
 returns-3 c =
     let r = c .before in
@@ -81,17 +57,6 @@ returns-3 c =
 pub read-frame-spec : {M : Type 1} → statement M
 read-frame-spec =
     tie.close
-    (tie.spec
-    read-field-requires
-    enum-known-class-field
-    enum-told
-    refused-frame-requires
-    returns
-    read-field-requires-2
-    enum-known-index-field
-    enum-told-2
-    refused-frame-requires-2
-    returns-2
-    envelope-count-requires
-    read-borders-requires
-    returns-3)
+    (tie.spec (λ c κs. search needs) (λ c. search needs) enum-told (λ c κs. search needs) returns
+    (λ c κs. search needs) (λ c. search needs) (λ c. search needs) (λ c κs. search needs) returns-2
+    envelope-count-requires (λ c κs. search needs) returns-3)

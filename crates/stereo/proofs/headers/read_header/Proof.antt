@@ -8,20 +8,8 @@ use borrow.Author.Needs.{needs}
 use Rattle.stereo.proofs.headers.read_header.Statement.{statement}
 use Rattle.stereo.proofs.headers.read_header.Tie as tie
 
-read-field-requires : tie.Need-read-field-requires
-read-field-requires c κs = search needs
-
-enum-known-f : tie.Need-enum-known-f
-enum-known-f c = search needs
-
 enum-told : tie.Need-enum-told
 enum-told c = search needs
-
-passed-on-requires : tie.Need-passed-on-requires
-passed-on-requires c κs = search needs
-
-refused-header-requires : tie.Need-refused-header-requires
-refused-header-requires c κs = search needs
 
 returns : tie.Need-returns
 unfolding header
@@ -30,18 +18,12 @@ returns c =
     let told = c .before .before .enum-told .given .1 in
     passed _ (c .refused-header .ensures ∙ c .before .passed-on .ensures) told ∙ rw (answered (f .read-field .ensures) told)
 
-read-header-fields-requires : tie.Need-read-header-fields-requires
-read-header-fields-requires c κs = search needs
-
 returns-2 : tie.Need-returns-2
 unfolding header
 returns-2 c =
     let k = c .before .before .before in
     c .read-header-fields .ensures
     ∙ rw (answered (k .before .before .read-field .ensures) (k .f .given .1), eq-eqb _ _ (c .before .if1 .taken))
-
-no-header-requires : tie.Need-no-header-requires
-no-header-requires c κs = search needs
 
 returns-3 : tie.Need-returns-3
 unfolding header
@@ -52,14 +34,5 @@ returns-3 c =
 pub read-header-spec : {M : Type 1} → statement M
 read-header-spec =
     tie.close
-    (tie.spec
-    read-field-requires
-    enum-known-f
-    enum-told
-    passed-on-requires
-    refused-header-requires
-    returns
-    read-header-fields-requires
-    returns-2
-    no-header-requires
-    returns-3)
+    (tie.spec (λ c κs. search needs) (λ c. search needs) enum-told (λ c κs. search needs) (λ c κs. search needs)
+    returns (λ c κs. search needs) returns-2 (λ c κs. search needs) returns-3)

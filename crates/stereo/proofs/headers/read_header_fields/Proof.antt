@@ -7,17 +7,8 @@ use borrow.Author.Needs.{needs}
 use Rattle.stereo.proofs.headers.read_header_fields.Statement.{statement}
 use Rattle.stereo.proofs.headers.read_header_fields.Tie as tie
 
-read-switch-requires : tie.Need-read-switch-requires
-read-switch-requires c κs = search needs
-
-enum-known-level-ended : tie.Need-enum-known-level-ended
-enum-known-level-ended c = search needs
-
 enum-told : tie.Need-enum-told
 enum-told c = search needs
-
-refused-header-requires : tie.Need-refused-header-requires
-refused-header-requires c κs = search needs
 
 returns : tie.Need-returns
 unfolding headerFields
@@ -25,18 +16,6 @@ returns c =
     let at-iid = c .before .before .before .before in
     let told = c .before .enum-told .given .1 in
     handed _ (c .refused-header .ensures) told ∙ rw (ended-is (at-iid .read-switch .result .switch) (at-iid .read-switch .ensures) told)
-
-read-switch-requires-2 : tie.Need-read-switch-requires-2
-read-switch-requires-2 c κs = search needs
-
-enum-known-coherence-ended : tie.Need-enum-known-coherence-ended
-enum-known-coherence-ended c = search needs
-
-enum-told-2 : tie.Need-enum-told-2
-enum-told-2 c = search needs
-
-refused-header-requires-2 : tie.Need-refused-header-requires-2
-refused-header-requires-2 c κs = search needs
 
 returns-2 : tie.Need-returns-2
 unfolding headerFields
@@ -50,21 +29,6 @@ returns-2 c =
       ended-is (at-iid .read-switch .result .switch) (at-iid .read-switch .ensures) (got-iid .level-ended .given .1),
       ended-is (at-icc .read-switch2 .result .switch) (at-icc .read-switch2 .ensures) told,
     )
-
-read-field-requires : tie.Need-read-field-requires
-read-field-requires c κs = search needs
-
-enum-known-flag : tie.Need-enum-known-flag
-enum-known-flag c = search needs
-
-enum-told-3 : tie.Need-enum-told-3
-enum-told-3 c = search needs
-
-passed-on-requires : tie.Need-passed-on-requires
-passed-on-requires c κs = search needs
-
-refused-header-requires-3 : tie.Need-refused-header-requires-3
-refused-header-requires-3 c κs = search needs
 
 returns-3 : tie.Need-returns-3
 unfolding headerFields
@@ -100,21 +64,7 @@ returns-4 c =
 pub read-header-fields-spec : {M : Type 1} → statement M
 read-header-fields-spec =
     tie.close
-    (tie.spec
-    read-switch-requires
-    enum-known-level-ended
-    enum-told
-    refused-header-requires
-    returns
-    read-switch-requires-2
-    enum-known-coherence-ended
-    enum-told-2
-    refused-header-requires-2
-    returns-2
-    read-field-requires
-    enum-known-flag
-    enum-told-3
-    passed-on-requires
-    refused-header-requires-3
-    returns-3
-    returns-4)
+    (tie.spec (λ c κs. search needs) (λ c. search needs) enum-told (λ c κs. search needs) returns
+    (λ c κs. search needs) (λ c. search needs) (λ c. search needs) (λ c κs. search needs) returns-2
+    (λ c κs. search needs) (λ c. search needs) (λ c. search needs) (λ c κs. search needs) (λ c κs. search needs)
+    returns-3 returns-4)

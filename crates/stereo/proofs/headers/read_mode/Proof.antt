@@ -8,20 +8,11 @@ use Rattle.stereo.proofs.headers.read_mode.Tie as tie
 returns : tie.Need-returns
 returns c = mode-off _ _ _ _ (c .if1 .taken)
 
-read-field-requires : tie.Need-read-field-requires
-read-field-requires c κs = search needs
-
-enum-known-mode : tie.Need-enum-known-mode
-enum-known-mode c = search needs
-
 returns-2 : tie.Need-returns-2
 returns-2 c =
     let m = c .before .before in
     mode-got _ _ _ _ _ _ (m .before .before .before .if1 .left) (answered (m .before .before .read-field .ensures) (m .mode .given .1))
     (c .if2 .taken)
-
-enum-known-number : tie.Need-enum-known-number
-enum-known-number c = search needs
 
 returns-3 : tie.Need-returns-3
 returns-3 c =
@@ -38,11 +29,4 @@ returns-4 c =
 pub read-mode-spec : {M : Type 1} → statement M
 read-mode-spec =
     tie.close
-    (tie.spec
-    returns
-    read-field-requires
-    enum-known-mode
-    returns-2
-    enum-known-number
-    returns-3
-    returns-4)
+    (tie.spec returns (λ c κs. search needs) (λ c. search needs) returns-2 (λ c. search needs) returns-3 returns-4)

@@ -7,17 +7,8 @@ use borrow.Author.Needs.{needs}
 use Rattle.stereo.proofs.headers.read_switch.Statement.{statement}
 use Rattle.stereo.proofs.headers.read_switch.Tie as tie
 
-read-field-requires : tie.Need-read-field-requires
-read-field-requires c κs = search needs
-
-enum-known-flag : tie.Need-enum-known-flag
-enum-known-flag c = search needs
-
 enum-told : tie.Need-enum-told
 enum-told c = search needs
-
-refused-switch-requires : tie.Need-refused-switch-requires
-refused-switch-requires c κs = search needs
 
 returns : tie.Need-returns
 unfolding switch
@@ -25,18 +16,6 @@ returns c =
     let at-flag = c .before .before .before in
     let told = c .before .enum-told .given .1 in
     passed _ (c .refused-switch .ensures) told ∙ rw (answered (at-flag .read-field .ensures) told)
-
-read-mode-requires : tie.Need-read-mode-requires
-read-mode-requires c κs = search needs
-
-enum-known-sent : tie.Need-enum-known-sent
-enum-known-sent c = search needs
-
-enum-told-2 : tie.Need-enum-told-2
-enum-told-2 c = search needs
-
-refused-switch-requires-2 : tie.Need-refused-switch-requires-2
-refused-switch-requires-2 c κs = search needs
 
 returns-2 : tie.Need-returns-2
 unfolding switch
@@ -63,15 +42,5 @@ returns-3 c =
 pub read-switch-spec : {M : Type 1} → statement M
 read-switch-spec =
     tie.close
-    (tie.spec
-    read-field-requires
-    enum-known-flag
-    enum-told
-    refused-switch-requires
-    returns
-    read-mode-requires
-    enum-known-sent
-    enum-told-2
-    refused-switch-requires-2
-    returns-2
-    returns-3)
+    (tie.spec (λ c κs. search needs) (λ c. search needs) enum-told (λ c κs. search needs) returns
+    (λ c κs. search needs) (λ c. search needs) (λ c. search needs) (λ c κs. search needs) returns-2 returns-3)

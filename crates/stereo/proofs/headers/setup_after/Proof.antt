@@ -4,21 +4,6 @@ use borrow.Author.Needs.{needs}
 use Rattle.stereo.proofs.headers.setup_after.Statement.{statement}
 use Rattle.stereo.proofs.headers.setup_after.Tie as tie
 
-flag-after-requires : tie.Need-flag-after-requires
-flag-after-requires c κs = search needs
-
-flag-after-requires-2 : tie.Need-flag-after-requires-2
-flag-after-requires-2 c κs = search needs
-
-flag-after-requires-3 : tie.Need-flag-after-requires-3
-flag-after-requires-3 c κs = search needs
-
-mode-after-requires : tie.Need-mode-after-requires
-mode-after-requires c κs = search needs
-
-mode-after-requires-2 : tie.Need-mode-after-requires-2
-mode-after-requires-2 c κs = search needs
-
 returns : tie.Need-returns
 unfolding setupAfter
 returns c = rw (
@@ -32,10 +17,5 @@ returns c = rw (
 pub setup-after-spec : {M : Type 1} → statement M
 setup-after-spec =
     tie.close
-    (tie.spec
-    flag-after-requires
-    flag-after-requires-2
-    flag-after-requires-3
-    mode-after-requires
-    mode-after-requires-2
-    returns)
+    (tie.spec (λ c κs. search needs) (λ c κs. search needs) (λ c κs. search needs) (λ c κs. search needs)
+    (λ c κs. search needs) returns)

@@ -8,17 +8,8 @@ use borrow.Author.Needs.{needs}
 use Rattle.stereo.proofs.payloads.read_envelopes.Statement.{statement}
 use Rattle.stereo.proofs.payloads.read_envelopes.Tie as tie
 
-read-levels-requires : tie.Need-read-levels-requires
-read-levels-requires c κs = search needs
-
-enum-known-levels-ended : tie.Need-enum-known-levels-ended
-enum-known-levels-ended c = search needs
-
 enum-told : tie.Need-enum-told
 enum-told c = search needs
-
-refused-contents-requires : tie.Need-refused-contents-requires
-refused-contents-requires c κs = search needs
 
 returns : tie.Need-returns
 returns c =
@@ -26,18 +17,6 @@ returns c =
     let r = c .before .before .before .before in
     ap (λ (x : Ended). endedAnswer x (c .refused-contents .result .contents)) (c .refused-contents .ensures ∙ t)
     ∙ iid-refused _ _ _ _ _ _ _ _ _ (ended-is (r .read-levels .result .rows) (r .read-levels .ensures) t)
-
-read-coherences-requires : tie.Need-read-coherences-requires
-read-coherences-requires c κs = search needs
-
-enum-known-coherences-ended : tie.Need-enum-known-coherences-ended
-enum-known-coherences-ended c = search needs
-
-enum-told-2 : tie.Need-enum-told-2
-enum-told-2 c = search needs
-
-refused-contents-requires-2 : tie.Need-refused-contents-requires-2
-refused-contents-requires-2 c κs = search needs
 
 returns-2 : tie.Need-returns-2
 returns-2 c =
@@ -48,9 +27,6 @@ returns-2 c =
     ap (λ (x : Ended). endedAnswer x (c .refused-contents2 .result .contents)) (c .refused-contents2 .ensures ∙ t)
     ∙ icc-refused _ _ _ _ _ _ _ _ _ _ _ (ended-is (r .read-levels .result .rows) (r .read-levels .ensures) (e .levels-ended .given .1))
     (ended-is (q .read-coherences .result .rows) (q .read-coherences .ensures) t)
-
-read-rest-requires : tie.Need-read-rest-requires
-read-rest-requires c κs = search needs
 
 returns-3 : tie.Need-returns-3
 returns-3 c =
@@ -66,16 +42,6 @@ returns-3 c =
 pub read-envelopes-spec : {M : Type 1} → statement M
 read-envelopes-spec =
     tie.close
-    (tie.spec
-    read-levels-requires
-    enum-known-levels-ended
-    enum-told
-    refused-contents-requires
-    returns
-    read-coherences-requires
-    enum-known-coherences-ended
-    enum-told-2
-    refused-contents-requires-2
-    returns-2
-    read-rest-requires
-    returns-3)
+    (tie.spec (λ c κs. search needs) (λ c. search needs) enum-told (λ c κs. search needs) returns
+    (λ c κs. search needs) (λ c. search needs) (λ c. search needs) (λ c κs. search needs) returns-2
+    (λ c κs. search needs) returns-3)

@@ -8,17 +8,8 @@ use borrow.Author.Needs.{needs}
 use Rattle.stereo.proofs.payloads.read_payload.Statement.{statement}
 use Rattle.stereo.proofs.payloads.read_payload.Tie as tie
 
-read-header-requires : tie.Need-read-header-requires
-read-header-requires c κs = search needs
-
-enum-known-header-ended : tie.Need-enum-known-header-ended
-enum-known-header-ended c = search needs
-
 enum-told : tie.Need-enum-told
 enum-told c = search needs
-
-refused-contents-requires : tie.Need-refused-contents-requires
-refused-contents-requires c κs = search needs
 
 returns : tie.Need-returns
 returns c =
@@ -26,18 +17,6 @@ returns c =
     let r = c .before .before .before .before in
     ap (λ (x : Ended). endedAnswer x (c .refused-contents .result .contents)) (c .refused-contents .ensures ∙ t)
     ∙ header-refused _ _ _ _ _ _ (ended-is (r .read-header .result .header) (r .read-header .ensures) t)
-
-read-frame-requires : tie.Need-read-frame-requires
-read-frame-requires c κs = search needs
-
-enum-known-frame-ended : tie.Need-enum-known-frame-ended
-enum-known-frame-ended c = search needs
-
-enum-told-2 : tie.Need-enum-told-2
-enum-told-2 c = search needs
-
-refused-contents-requires-2 : tie.Need-refused-contents-requires-2
-refused-contents-requires-2 c κs = search needs
 
 returns-2 : tie.Need-returns-2
 returns-2 c =
@@ -48,12 +27,6 @@ returns-2 c =
     ap (λ (x : Ended). endedAnswer x (c .refused-contents2 .result .contents)) (c .refused-contents2 .ensures ∙ t)
     ∙ frame-refused _ _ _ _ _ _ _ _ (ended-is (r .read-header .result .header) (r .read-header .ensures) (e .header-ended .given .1))
     (ended-is (q .read-frame .result .frame) (q .read-frame .ensures .0) t)
-
-setup-after-requires : tie.Need-setup-after-requires
-setup-after-requires c κs = search needs
-
-read-envelopes-requires : tie.Need-read-envelopes-requires
-read-envelopes-requires c κs = search needs
 
 returns-3 : tie.Need-returns-3
 returns-3 c =
@@ -68,17 +41,6 @@ returns-3 c =
 pub read-payload-spec : {M : Type 1} → statement M
 read-payload-spec =
     tie.close
-    (tie.spec
-    read-header-requires
-    enum-known-header-ended
-    enum-told
-    refused-contents-requires
-    returns
-    read-frame-requires
-    enum-known-frame-ended
-    enum-told-2
-    refused-contents-requires-2
-    returns-2
-    setup-after-requires
-    read-envelopes-requires
-    returns-3)
+    (tie.spec (λ c κs. search needs) (λ c. search needs) enum-told (λ c κs. search needs) returns
+    (λ c κs. search needs) (λ c. search needs) (λ c. search needs) (λ c κs. search needs) returns-2
+    (λ c κs. search needs) (λ c κs. search needs) returns-3)

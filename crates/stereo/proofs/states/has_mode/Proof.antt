@@ -6,8 +6,5 @@ use Rattle.stereo.proofs.states.has_mode.Tie as tie
 returns : tie.Need-returns
 returns c = rw (c .if1 .taken)
 
-returns-2 : tie.Need-returns-2
-returns-2 c = search needs
-
 pub has-mode-spec : {M : Type 1} → statement M
-has-mode-spec = tie.close (tie.spec returns returns-2)
+has-mode-spec = tie.close (tie.spec returns (λ c. search needs))

@@ -6,15 +6,9 @@ use borrow.Author.Needs.{needs}
 use Rattle.stereo.proofs.states.is_sound.Statement.{statement}
 use Rattle.stereo.proofs.states.is_sound.Tie as tie
 
-is-sound-setup-requires : tie.Need-is-sound-setup-requires
-is-sound-setup-requires c κs = search needs
-
 returns : tie.Need-returns
 unfolding sound
 returns c = rw (sym (c .before .is-sound-setup .ensures) ∙ not-true _ (c .if1 .taken))
-
-is-sound-requires : tie.Need-is-sound-requires
-is-sound-requires c κs = search needs
 
 returns-2 : tie.Need-returns-2
 unfolding sound
@@ -26,9 +20,6 @@ returns-2 c =
           ∙ not-true _ (c .if2 .taken),
     )
 
-is-sound-requires-2 : tie.Need-is-sound-requires-2
-is-sound-requires-2 c κs = search needs
-
 returns-3 : tie.Need-returns-3
 unfolding sound
 returns-3 c =
@@ -39,9 +30,6 @@ returns-3 c =
       sym (at-iid .before .is-sound .ensures) ∙ not-false _ (at-iid .if2 .left),
       sym (c .before .is-sound2 .ensures) ∙ not-true _ (c .if3 .taken),
     )
-
-is-sound-requires-3 : tie.Need-is-sound-requires-3
-is-sound-requires-3 c κs = search needs
 
 returns-4 : tie.Need-returns-4
 unfolding sound
@@ -55,9 +43,6 @@ returns-4 c =
       sym (at-icc .before .is-sound2 .ensures) ∙ not-false _ (at-icc .if3 .left),
       sym (c .before .is-sound3 .ensures) ∙ not-true _ (c .if4 .taken),
     )
-
-is-sound-requires-4 : tie.Need-is-sound-requires-4
-is-sound-requires-4 c κs = search needs
 
 returns-5 : tie.Need-returns-5
 unfolding sound
@@ -77,14 +62,5 @@ returns-5 c =
 pub is-sound-spec : {M : Type 1} → statement M
 is-sound-spec =
     tie.close
-    (tie.spec
-    is-sound-setup-requires
-    returns
-    is-sound-requires
-    returns-2
-    is-sound-requires-2
-    returns-3
-    is-sound-requires-3
-    returns-4
-    is-sound-requires-4
-    returns-5)
+    (tie.spec (λ c κs. search needs) returns (λ c κs. search needs) returns-2 (λ c κs. search needs) returns-3
+    (λ c κs. search needs) returns-4 (λ c κs. search needs) returns-5)

@@ -6,15 +6,9 @@ use borrow.Author.Needs.{needs}
 use Rattle.stereo.proofs.states.is_sound_setup.Statement.{statement}
 use Rattle.stereo.proofs.states.is_sound_setup.Tie as tie
 
-is-mode-requires : tie.Need-is-mode-requires
-is-mode-requires c κs = search needs
-
 returns : tie.Need-returns
 unfolding soundSetup
 returns c = rw (sym (c .before .is-mode .ensures) ∙ not-true _ (c .if1 .taken))
-
-is-mode-requires-2 : tie.Need-is-mode-requires-2
-is-mode-requires-2 c κs = search needs
 
 returns-2 : tie.Need-returns-2
 unfolding soundSetup
@@ -23,9 +17,6 @@ returns-2 c = rw (
       ∙ not-false _ (c .before .before .if1 .left),
   sym (c .before .is-mode2 .ensures) ∙ not-true _ (c .if2 .taken),
 )
-
-has-mode-requires : tie.Need-has-mode-requires
-has-mode-requires c κs = search needs
 
 returns-3 : tie.Need-returns-3
 unfolding soundSetup
@@ -36,9 +27,6 @@ returns-3 c = rw (
       ∙ not-false _ (c .before .before .if2 .left),
   sym (c .before .has-mode .ensures) ∙ not-true _ (c .if3 .taken),
 )
-
-has-mode-requires-2 : tie.Need-has-mode-requires-2
-has-mode-requires-2 c κs = search needs
 
 returns-4 : tie.Need-returns-4
 unfolding soundSetup
@@ -57,12 +45,5 @@ returns-4 c =
 pub is-sound-setup-spec : {M : Type 1} → statement M
 is-sound-setup-spec =
     tie.close
-    (tie.spec
-    is-mode-requires
-    returns
-    is-mode-requires-2
-    returns-2
-    has-mode-requires
-    returns-3
-    has-mode-requires-2
-    returns-4)
+    (tie.spec (λ c κs. search needs) returns (λ c κs. search needs) returns-2 (λ c κs. search needs) returns-3
+    (λ c κs. search needs) returns-4)

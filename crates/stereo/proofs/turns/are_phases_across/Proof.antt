@@ -9,9 +9,6 @@ returns : tie.Need-returns
 unfolding phasesAcross
 returns c = rw (ne-eqb _ _ (c .if1 .taken))
 
-phases-at-requires : tie.Need-phases-at-requires
-phases-at-requires c κs = search needs
-
 returns-2 : tie.Need-returns-2
 unfolding phasesAcross
 returns-2 c =
@@ -25,4 +22,6 @@ returns-3 c =
     rw (eq-eqb _ _ (p .before .before .if1 .left), ← p .phases-at .ensures, eq-eqb _ _ (c .before .before .if2 .left))
 
 pub are-phases-across-spec : {M : Type 1} → statement M
-are-phases-across-spec = tie.close (tie.spec returns phases-at-requires returns-2 returns-3)
+are-phases-across-spec =
+    tie.close
+    (tie.spec returns (λ c κs. search needs) returns-2 returns-3)

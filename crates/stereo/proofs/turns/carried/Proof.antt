@@ -4,24 +4,6 @@ use borrow.Author.Needs.{needs}
 use Rattle.stereo.proofs.turns.carried.Statement.{statement}
 use Rattle.stereo.proofs.turns.carried.Tie as tie
 
-setup-after-requires : tie.Need-setup-after-requires
-setup-after-requires c κs = search needs
-
-last-row-requires : tie.Need-last-row-requires
-last-row-requires c κs = search needs
-
-record-after-requires : tie.Need-record-after-requires
-record-after-requires c κs = search needs
-
-last-row-requires-2 : tie.Need-last-row-requires-2
-last-row-requires-2 c κs = search needs
-
-record-after-requires-2 : tie.Need-record-after-requires-2
-record-after-requires-2 c κs = search needs
-
-phases-after-requires : tie.Need-phases-after-requires
-phases-after-requires c κs = search needs
-
 returns : tie.Need-returns
 unfolding carried carriedIn
 returns c =
@@ -40,11 +22,5 @@ returns c =
 pub carried-spec : {M : Type 1} → statement M
 carried-spec =
     tie.close
-    (tie.spec
-    setup-after-requires
-    last-row-requires
-    record-after-requires
-    last-row-requires-2
-    record-after-requires-2
-    phases-after-requires
-    returns)
+    (tie.spec (λ c κs. search needs) (λ c κs. search needs) (λ c κs. search needs) (λ c κs. search needs)
+    (λ c κs. search needs) (λ c κs. search needs) returns)

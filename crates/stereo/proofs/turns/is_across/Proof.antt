@@ -3,11 +3,8 @@ use borrow.Author.Needs.{needs}
 use Rattle.stereo.proofs.turns.is_across.Statement.{statement}
 use Rattle.stereo.proofs.turns.is_across.Tie as tie
 
-row-at-requires : tie.Need-row-at-requires
-row-at-requires c κs = search needs
-
 returns : tie.Need-returns
 returns c = rw (c .before .row-at .ensures)
 
 pub is-across-spec : {M : Type 1} → statement M
-is-across-spec = tie.close (tie.spec row-at-requires returns)
+is-across-spec = tie.close (tie.spec (λ c κs. search needs) returns)

@@ -34,9 +34,6 @@ returns-4 c =
       lt-leb _ _ (c .if4 .taken),
     )
 
-is-across-requires : tie.Need-is-across-requires
-is-across-requires c κs = search needs
-
 returns-5 : tie.Need-returns-5
 unfolding restart
 returns-5 c =
@@ -50,9 +47,6 @@ returns-5 c =
       le-leb _ _ (at-some .if4 .left),
       sym (c .before .is-across .ensures) ∙ not-true _ (c .if5 .taken),
     )
-
-is-across-requires-2 : tie.Need-is-across-requires-2
-is-across-requires-2 c κs = search needs
 
 returns-6 : tie.Need-returns-6
 unfolding restart
@@ -69,9 +63,6 @@ returns-6 c =
       sym (at-iid-across .before .is-across .ensures) ∙ not-false _ (at-iid-across .if5 .left),
       sym (c .before .is-across2 .ensures) ∙ not-true _ (c .if6 .taken),
     )
-
-are-phases-across-requires : tie.Need-are-phases-across-requires
-are-phases-across-requires c κs = search needs
 
 returns-7 : tie.Need-returns-7
 unfolding restart
@@ -94,14 +85,5 @@ returns-7 c =
 pub is-restart-spec : {M : Type 1} → statement M
 is-restart-spec =
     tie.close
-    (tie.spec
-    returns
-    returns-2
-    returns-3
-    returns-4
-    is-across-requires
-    returns-5
-    is-across-requires-2
-    returns-6
-    are-phases-across-requires
-    returns-7)
+    (tie.spec returns returns-2 returns-3 returns-4 (λ c κs. search needs) returns-5 (λ c κs. search needs)
+    returns-6 (λ c κs. search needs) returns-7)

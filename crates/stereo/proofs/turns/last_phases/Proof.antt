@@ -4,14 +4,8 @@ use borrow.Author.Needs.{needs}
 use Rattle.stereo.proofs.turns.last_phases.Statement.{statement}
 use Rattle.stereo.proofs.turns.last_phases.Tie as tie
 
-before-requires : tie.Need-before-requires
-before-requires c κs = search needs
-
-phases-at-requires : tie.Need-phases-at-requires
-phases-at-requires c κs = search needs
-
 returns : tie.Need-returns
 returns c = c .phases-at .ensures ∙ rw (c .before .before2 .ensures)
 
 pub last-phases-spec : {M : Type 1} → statement M
-last-phases-spec = tie.close (tie.spec before-requires phases-at-requires returns)
+last-phases-spec = tie.close (tie.spec (λ c κs. search needs) (λ c κs. search needs) returns)

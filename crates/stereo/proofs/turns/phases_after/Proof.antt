@@ -4,15 +4,6 @@ use borrow.Author.Needs.{needs}
 use Rattle.stereo.proofs.turns.phases_after.Statement.{statement}
 use Rattle.stereo.proofs.turns.phases_after.Tie as tie
 
-last-phases-requires : tie.Need-last-phases-requires
-last-phases-requires c κs = search needs
-
-record-after-requires : tie.Need-record-after-requires
-record-after-requires c κs = search needs
-
-record-after-requires-2 : tie.Need-record-after-requires-2
-record-after-requires-2 c κs = search needs
-
 returns : tie.Need-returns
 unfolding phaseRecords
 returns c =
@@ -22,4 +13,5 @@ returns c =
 
 pub phases-after-spec : {M : Type 1} → statement M
 phases-after-spec =
-    tie.close (tie.spec last-phases-requires record-after-requires record-after-requires-2 returns)
+    tie.close
+    (tie.spec (λ c κs. search needs) (λ c κs. search needs) (λ c κs. search needs) returns)

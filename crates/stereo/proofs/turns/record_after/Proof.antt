@@ -7,9 +7,6 @@ use borrow.Author.Needs.{needs}
 use Rattle.stereo.proofs.turns.record_after.Statement.{statement}
 use Rattle.stereo.proofs.turns.record_after.Tie as tie
 
-none-requires : tie.Need-none-requires
-none-requires c κs = search needs
-
 returns : tie.Need-returns
 unfolding recordAfter
 returns c =
@@ -29,4 +26,6 @@ returns-3 c =
     rw (e, ne-eqb _ _ (c .if2 .left))
 
 pub record-after-spec : {M : Type 1} → statement M
-record-after-spec = tie.close (tie.spec none-requires returns returns-2 returns-3)
+record-after-spec =
+    tie.close
+    (tie.spec (λ c κs. search needs) returns returns-2 returns-3)

@@ -9,20 +9,11 @@ use borrow.Author.Needs.{needs}
 use Rattle.stereo.proofs.turns.row_at.Statement.{statement}
 use Rattle.stereo.proofs.turns.row_at.Tie as tie
 
-mul-result : tie.Need-mul-result
-mul-result c = search needs
-
-array-copy-out-result : tie.Need-array-copy-out-result
-array-copy-out-result c = search needs
-
 returns : tie.Need-returns
 returns c =
     let a = c .before .before .args in
     let l : length (a .t1) ≡ 4 = search needs in
     getD-there (a .t1) (a .i) _ noRow (omega arith)
-
-no-row-requires : tie.Need-no-row-requires
-no-row-requires c κs = search needs
 
 returns-2 : tie.Need-returns-2
 returns-2 c =
@@ -33,4 +24,5 @@ returns-2 c =
 
 pub row-at-spec : {M : Type 1} → statement M
 row-at-spec =
-    tie.close (tie.spec mul-result array-copy-out-result returns no-row-requires returns-2)
+    tie.close
+    (tie.spec (λ c. search needs) (λ c. search needs) returns (λ c κs. search needs) returns-2)

@@ -41,12 +41,6 @@ Inv-loop s at end kind mode time codes lens before count indices₀ last₀ plac
 abbrev μ-loop : tie.MeasureT-loop
 μ-loop s at end kind mode time codes lens before count indices₀ last₀ place₀ i₀ indices last place i = count - i
 
-bands-requires : tie.Need-bands-requires Inv-loop μ-loop
-bands-requires c κs = search needs
-
-zeros-requires : tie.Need-zeros-requires Inv-loop μ-loop
-zeros-requires c κs = search needs
-
 loop-holds : tie.Need-loop-holds Inv-loop μ-loop
 unfolding zeros
 loop-holds c =
@@ -60,12 +54,6 @@ loop-holds c =
       so-far = counted-start (more (index (a .kind) (a .mode) (a .time) (a .t7))) (c .before .bands .result) [] (a .s .now) (a .at)
           (a .end);
     })
-
-array-copy-out-chosen : tie.Need-array-copy-out-chosen Inv-loop μ-loop
-array-copy-out-chosen c = search needs
-
-chosen-requires : tie.Need-chosen-requires Inv-loop μ-loop
-chosen-requires c κs = search needs
 
 -- the code adds to what the definition adds to
 from-is : (c : tie.After-chosen Inv-loop μ-loop)
@@ -116,15 +104,6 @@ read-index-requires c κs =
     let entry = c .before .before .before .before .before .before .before .before .before in
     entry .pre
 
-enum-known-x : tie.Need-enum-known-x Inv-loop μ-loop
-enum-known-x c = search needs
-
-array-set-from-indices : tie.Need-array-set-from-indices Inv-loop μ-loop
-array-set-from-indices c = search needs
-
-enum-known-number : tie.Need-enum-known-number Inv-loop μ-loop
-enum-known-number c = search needs
-
 returns : tie.Need-returns Inv-loop μ-loop
 returns c =
     let p = c .before .before .before in
@@ -137,12 +116,6 @@ returns c =
     (p .before .before .before .loop-test .taken)
     (more-refused f (l .i) (take (l .i) (l .indices)) (a .s .now) (l .place) (a .end) _ _ q) in
     indices-refused (a .kind) (a .mode) (a .time) (a .t7) (a .s .now) (a .at) (a .end) _ _ (rw n at e)
-
-add-i : tie.Need-add-i Inv-loop μ-loop
-add-i c = search needs
-
-loop-less : tie.Need-loop-less Inv-loop μ-loop
-loop-less c = search needs
 
 loop-again : tie.Need-loop-again Inv-loop μ-loop
 loop-again c =
@@ -182,20 +155,6 @@ returns-2 c =
 pub read-indices-spec : {M : Type 1} → statement M
 read-indices-spec =
     tie.close
-    (tie.spec
-    Inv-loop
-    μ-loop
-    bands-requires
-    zeros-requires
-    loop-holds
-    array-copy-out-chosen
-    chosen-requires
-    read-index-requires
-    enum-known-x
-    array-set-from-indices
-    enum-known-number
-    returns
-    add-i
-    loop-less
-    loop-again
-    returns-2)
+    (tie.spec Inv-loop μ-loop (λ c κs. search needs) (λ c κs. search needs) loop-holds (λ c. search needs)
+    (λ c κs. search needs) read-index-requires (λ c. search needs) (λ c. search needs) (λ c. search needs) returns
+    (λ c. search needs) (λ c. search needs) loop-again returns-2)

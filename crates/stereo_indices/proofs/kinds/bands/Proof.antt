@@ -6,12 +6,6 @@ use borrow.Author.Needs.{needs}
 use Rattle.stereo_indices.proofs.kinds.bands.Statement.{statement}
 use Rattle.stereo_indices.proofs.kinds.bands.Tie as tie
 
-is-phase-requires : tie.Need-is-phase-requires
-is-phase-requires c κs = search needs
-
-by-mode-requires : tie.Need-by-mode-requires
-by-mode-requires c κs = search needs
-
 returns : tie.Need-returns
 unfolding bands
 returns c =
@@ -19,9 +13,6 @@ returns c =
     let e : c .by-mode .result ≡ bands (a .kind) (a .mode) = c .by-mode .ensures
     ∙ rw (sym (c .before .before .is-phase .ensures) ∙ c .before .if1 .taken) in
     (e, rw e (bands-le (a .kind) (a .mode)))
-
-by-mode-requires-2 : tie.Need-by-mode-requires-2
-by-mode-requires-2 c κs = search needs
 
 returns-2 : tie.Need-returns-2
 unfolding bands
@@ -33,4 +24,5 @@ returns-2 c =
 
 pub bands-spec : {M : Type 1} → statement M
 bands-spec =
-    tie.close (tie.spec is-phase-requires by-mode-requires returns by-mode-requires-2 returns-2)
+    tie.close
+    (tie.spec (λ c κs. search needs) (λ c κs. search needs) returns (λ c κs. search needs) returns-2)

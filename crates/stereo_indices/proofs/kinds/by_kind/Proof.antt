@@ -12,15 +12,6 @@ enum-told c = search needs
 returns : tie.Need-returns
 returns c = rw (c .before .enum-told .given .1, toZ-ofZ w16 _ (c .before .before .before .fits .fine)) (simp (le-leb _ _ (c .if1 .taken)))
 
-enum-told-2 : tie.Need-enum-told-2
-enum-told-2 c = search needs
-
-enum-told-3 : tie.Need-enum-told-3
-enum-told-3 c = search needs
-
-enum-told-4 : tie.Need-enum-told-4
-enum-told-4 c = search needs
-
 returns-2 : tie.Need-returns-2
 returns-2 c = rw (c .before .enum-told .given .1, toZ-ofZ w16 _ (c .before .before .before .fits .plain)) (simp (lt-leb _ _ (c .if1 .left)))
 
@@ -36,13 +27,5 @@ returns-5 c = rw (c .enum-told4 .given .1, toZ-ofZ w16 _ (c .before .before .fit
 pub by-kind-spec : {M : Type 1} → statement M
 by-kind-spec =
     tie.close
-    (tie.spec
-    enum-told
-    returns
-    enum-told-2
-    enum-told-3
-    enum-told-4
-    returns-2
-    returns-3
-    returns-4
-    returns-5)
+    (tie.spec enum-told returns (λ c. search needs) (λ c. search needs) (λ c. search needs) returns-2 returns-3
+    returns-4 returns-5)

@@ -7,12 +7,9 @@ use Rattle.stereo_indices.proofs.KindLaws.{through, least-abs}
 use Rattle.stereo_indices.proofs.kinds.least.Statement.{statement}
 use Rattle.stereo_indices.proofs.kinds.least.Tie as tie
 
-by-kind-requires : tie.Need-by-kind-requires
-by-kind-requires c κs = search needs
-
 returns : tie.Need-returns
 unfolding least
 returns c = through w16 15 (c .by-kind .ensures) (least-abs (c .before .args .kind) (c .before .args .mode)) (omega arith)
 
 pub least-spec : {M : Type 1} → statement M
-least-spec = tie.close (tie.spec by-kind-requires returns)
+least-spec = tie.close (tie.spec (λ c κs. search needs) returns)

@@ -7,12 +7,9 @@ use Rattle.stereo_indices.proofs.KindLaws.{through, most-abs}
 use Rattle.stereo_indices.proofs.kinds.most.Statement.{statement}
 use Rattle.stereo_indices.proofs.kinds.most.Tie as tie
 
-by-kind-requires : tie.Need-by-kind-requires
-by-kind-requires c κs = search needs
-
 returns : tie.Need-returns
 unfolding most
 returns c = through w16 15 (c .by-kind .ensures) (most-abs (c .before .args .kind) (c .before .args .mode)) (omega arith)
 
 pub most-spec : {M : Type 1} → statement M
-most-spec = tie.close (tie.spec by-kind-requires returns)
+most-spec = tie.close (tie.spec (λ c κs. search needs) returns)

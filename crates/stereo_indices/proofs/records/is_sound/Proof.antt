@@ -6,15 +6,9 @@ use borrow.Author.Needs.{needs}
 use Rattle.stereo_indices.proofs.records.is_sound.Statement.{statement}
 use Rattle.stereo_indices.proofs.records.is_sound.Tie as tie
 
-is-mode-requires : tie.Need-is-mode-requires
-is-mode-requires c κs = search needs
-
 returns : tie.Need-returns
 unfolding soundRecord
 returns c = rw (sym (c .before .is-mode .ensures) ∙ not-true _ (c .if1 .taken))
-
-sound-indices-requires : tie.Need-sound-indices-requires
-sound-indices-requires c κs = search needs
 
 returns-2 : tie.Need-returns-2
 unfolding soundRecord
@@ -22,4 +16,6 @@ returns-2 c = c .sound-indices .ensures
     ∙ rw (sym (c .before .before .before .is-mode .ensures) ∙ not-false _ (c .before .before .if1 .left))
 
 pub is-sound-spec : {M : Type 1} → statement M
-is-sound-spec = tie.close (tie.spec is-mode-requires returns sound-indices-requires returns-2)
+is-sound-spec =
+    tie.close
+    (tie.spec (λ c κs. search needs) returns (λ c κs. search needs) returns-2)

@@ -4,12 +4,9 @@ use borrow.Author.Needs.{needs}
 use Rattle.stereo_indices.proofs.records.none.Statement.{statement}
 use Rattle.stereo_indices.proofs.records.none.Tie as tie
 
-zeros-requires : tie.Need-zeros-requires
-zeros-requires c κs = search needs
-
 returns : tie.Need-returns
 unfolding none
 returns c = rw (c .zeros .ensures)
 
 pub none-spec : {M : Type 1} → statement M
-none-spec = tie.close (tie.spec zeros-requires returns)
+none-spec = tie.close (tie.spec (λ c κs. search needs) returns)

@@ -8,11 +8,8 @@ use Rattle.stereo_indices.proofs.records.record_bands.Tie as tie
 returns : tie.Need-returns
 returns c = rw (eq-eqb _ _ (c .if1 .taken))
 
-bands-requires : tie.Need-bands-requires
-bands-requires c κs = search needs
-
 returns-2 : tie.Need-returns-2
 returns-2 c = c .bands .ensures .0 ∙ rw (ne-eqb _ _ (c .before .if1 .left))
 
 pub record-bands-spec : {M : Type 1} → statement M
-record-bands-spec = tie.close (tie.spec returns bands-requires returns-2)
+record-bands-spec = tie.close (tie.spec returns (λ c κs. search needs) returns-2)

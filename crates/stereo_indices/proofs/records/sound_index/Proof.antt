@@ -10,20 +10,8 @@ use borrow.Author.Needs.{needs}
 use Rattle.stereo_indices.proofs.records.sound_index.Statement.{statement}
 use Rattle.stereo_indices.proofs.records.sound_index.Tie as tie
 
-record-bands-requires : tie.Need-record-bands-requires
-record-bands-requires c κs = search needs
-
-least-requires : tie.Need-least-requires
-least-requires c κs = search needs
-
-most-requires : tie.Need-most-requires
-most-requires c κs = search needs
-
 cast-within : tie.Need-cast-within
 cast-within c = wide-fits _ (c .before .before .before .before .fits .x)
-
-within-requires : tie.Need-within-requires
-within-requires c κs = search needs
 
 returns : tie.Need-returns
 unfolding soundIndex
@@ -41,9 +29,6 @@ returns c =
 cast-within-2 : tie.Need-cast-within-2
 cast-within-2 c = wide-fits _ (c .before .before .fits .x)
 
-within-requires-2 : tie.Need-within-requires-2
-within-requires-2 c κs = search needs
-
 returns-2 : tie.Need-returns-2
 unfolding soundIndex
 returns-2 c =
@@ -54,13 +39,5 @@ returns-2 c =
 pub sound-index-spec : {M : Type 1} → statement M
 sound-index-spec =
     tie.close
-    (tie.spec
-    record-bands-requires
-    least-requires
-    most-requires
-    cast-within
-    within-requires
-    returns
-    cast-within-2
-    within-requires-2
-    returns-2)
+    (tie.spec (λ c κs. search needs) (λ c κs. search needs) (λ c κs. search needs) cast-within
+    (λ c κs. search needs) returns cast-within-2 (λ c κs. search needs) returns-2)

@@ -24,12 +24,6 @@ abbrev μ-loop : tie.MeasureT-loop
 loop-holds : tie.Need-loop-holds Inv-loop μ-loop
 loop-holds c = (omega arith, search needs, refl)
 
-array-copy-out-sound-index : tie.Need-array-copy-out-sound-index Inv-loop μ-loop
-array-copy-out-sound-index c = search needs
-
-sound-index-requires : tie.Need-sound-index-requires Inv-loop μ-loop
-sound-index-requires c κs = search needs
-
 -- the code judges the index that the definition judges
 verdict : (c : tie.After-sound-index Inv-loop μ-loop) → let a = c .before .before .before .before .args in
     let l = c .before .before .before .loop in
@@ -46,12 +40,6 @@ returns c =
     let l = p .before .before .before .loop in
     sym (l .inv .2 ∙ sound-stop _ _ _ _ (omega arith) (sym (verdict p) ∙ not-true _ (c .if1 .taken)))
 
-add-i : tie.Need-add-i Inv-loop μ-loop
-add-i c = search needs
-
-loop-less : tie.Need-loop-less Inv-loop μ-loop
-loop-less c = search needs
-
 loop-again : tie.Need-loop-again Inv-loop μ-loop
 loop-again c =
     let p = c .before in
@@ -66,14 +54,5 @@ returns-2 c =
 pub sound-indices-spec : {M : Type 1} → statement M
 sound-indices-spec =
     tie.close
-    (tie.spec
-    Inv-loop
-    μ-loop
-    loop-holds
-    array-copy-out-sound-index
-    sound-index-requires
-    returns
-    add-i
-    loop-less
-    loop-again
-    returns-2)
+    (tie.spec Inv-loop μ-loop loop-holds (λ c. search needs) (λ c κs. search needs) returns (λ c. search needs)
+    (λ c. search needs) loop-again returns-2)

@@ -8,11 +8,8 @@ use Rattle.stereo_indices.proofs.rows.allowed.Tie as tie
 returns : tie.Need-returns
 returns c = rw (eq-eqb _ _ (c .if1 .taken))
 
-agrees-requires : tie.Need-agrees-requires
-agrees-requires c κs = search needs
-
 returns-2 : tie.Need-returns-2
 returns-2 c = c .agrees .ensures ∙ rw (ne-eqb _ _ (c .before .if1 .left))
 
 pub allowed-spec : {M : Type 1} → statement M
-allowed-spec = tie.close (tie.spec returns agrees-requires returns-2)
+allowed-spec = tie.close (tie.spec returns (λ c κs. search needs) returns-2)

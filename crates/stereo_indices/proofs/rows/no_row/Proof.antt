@@ -4,12 +4,9 @@ use borrow.Author.Needs.{needs}
 use Rattle.stereo_indices.proofs.rows.no_row.Statement.{statement}
 use Rattle.stereo_indices.proofs.rows.no_row.Tie as tie
 
-zeros-requires : tie.Need-zeros-requires
-zeros-requires c κs = search needs
-
 returns : tie.Need-returns
 unfolding noRow
 returns c = rw (c .zeros .ensures)
 
 pub no-row-spec : {M : Type 1} → statement M
-no-row-spec = tie.close (tie.spec zeros-requires returns)
+no-row-spec = tie.close (tie.spec (λ c κs. search needs) returns)

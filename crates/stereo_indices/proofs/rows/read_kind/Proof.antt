@@ -5,19 +5,15 @@ use borrow.Author.Needs.{needs}
 use Rattle.stereo_indices.proofs.rows.read_kind.Statement.{statement}
 use Rattle.stereo_indices.proofs.rows.read_kind.Tie as tie
 
-read-rows-requires : tie.Need-read-rows-requires
-read-rows-requires c κs = search needs
-
 returns : tie.Need-returns
 unfolding rows
 returns c = c .read-rows .ensures ∙ rw (c .before .if1 .taken)
-
-no-rows-requires : tie.Need-no-rows-requires
-no-rows-requires c κs = search needs
 
 returns-2 : tie.Need-returns-2
 unfolding rows
 returns-2 c = rw (c .before .if1 .left, c .no-rows .ensures)
 
 pub read-kind-spec : {M : Type 1} → statement M
-read-kind-spec = tie.close (tie.spec read-rows-requires returns no-rows-requires returns-2)
+read-kind-spec =
+    tie.close
+    (tie.spec (λ c κs. search needs) returns (λ c κs. search needs) returns-2)

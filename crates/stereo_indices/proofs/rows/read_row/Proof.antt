@@ -7,18 +7,6 @@ use borrow.Author.Needs.{needs}
 use Rattle.stereo_indices.proofs.rows.read_row.Statement.{statement}
 use Rattle.stereo_indices.proofs.rows.read_row.Tie as tie
 
-read-field-requires : tie.Need-read-field-requires
-read-field-requires c κs = search needs
-
-enum-known-time : tie.Need-enum-known-time
-enum-known-time c = search needs
-
-allowed-requires : tie.Need-allowed-requires
-allowed-requires c κs = search needs
-
-refused-row-requires : tie.Need-refused-row-requires
-refused-row-requires c κs = search needs
-
 returns : tie.Need-returns
 returns c =
     let w = c .before .before in
@@ -26,15 +14,6 @@ returns c =
     let f = t .before .before in
     c .refused-row .ensures ∙ row-31 _ _ _ _ _ _ _ _ (answered (f .read-field .ensures) (t .time .given .1))
     (sym (w .allowed .ensures) ∙ not-true _ (c .before .if1 .taken))
-
-read-indices-requires : tie.Need-read-indices-requires
-read-indices-requires c κs = search needs
-
-enum-known-number : tie.Need-enum-known-number
-enum-known-number c = search needs
-
-refused-row-requires-2 : tie.Need-refused-row-requires-2
-refused-row-requires-2 c κs = search needs
 
 returns-2 : tie.Need-returns-2
 returns-2 c =
@@ -55,14 +34,5 @@ returns-3 c =
 pub read-row-spec : {M : Type 1} → statement M
 read-row-spec =
     tie.close
-    (tie.spec
-    read-field-requires
-    enum-known-time
-    allowed-requires
-    refused-row-requires
-    returns
-    read-indices-requires
-    enum-known-number
-    refused-row-requires-2
-    returns-2
-    returns-3)
+    (tie.spec (λ c κs. search needs) (λ c. search needs) (λ c κs. search needs) (λ c κs. search needs) returns
+    (λ c κs. search needs) (λ c. search needs) (λ c κs. search needs) returns-2 returns-3)

@@ -37,9 +37,6 @@ Inv-loop s at end kind mode n codes lens rows₀ last₀ place₀ k₀ rows last
 abbrev μ-loop : tie.MeasureT-loop
 μ-loop s at end kind mode n codes lens rows₀ last₀ place₀ k₀ rows last place k = n - k
 
-no-rows-requires : tie.Need-no-rows-requires Inv-loop μ-loop
-no-rows-requires c κs = search needs
-
 loop-holds : tie.Need-loop-holds Inv-loop μ-loop
 unfolding noRows
 loop-holds c =
@@ -55,15 +52,6 @@ read-row-requires : tie.Need-read-row-requires Inv-loop μ-loop
 read-row-requires c κs =
     let entry = c .before .before .before .before .before .before in
     let p = entry .pre in (p .0, p .1)
-
-enum-known-ended : tie.Need-enum-known-ended Inv-loop μ-loop
-enum-known-ended c = search needs
-
-mul-rows : tie.Need-mul-rows Inv-loop μ-loop
-mul-rows c = search needs
-
-array-set-from-rows : tie.Need-array-set-from-rows Inv-loop μ-loop
-array-set-from-rows c = search needs
 
 enum-told : tie.Need-enum-told Inv-loop μ-loop
 enum-told c = search needs
@@ -91,12 +79,6 @@ returns c =
     (p .before .loop-test .taken)
     (more-refused f (l .k) (take (l .k) (l .rows)) (a .s .now) (l .place) (a .end) _ _ q) in
     ap (λ (x : Ended). endedAnswer x (l .rows)) told ∙ rows-refused (a .kind) (a .mode) (a .rec) (a .s .now) (a .at) (a .end) (a .n) _ _ e
-
-add-k : tie.Need-add-k Inv-loop μ-loop
-add-k c = search needs
-
-loop-less : tie.Need-loop-less Inv-loop μ-loop
-loop-less c = search needs
 
 loop-again : tie.Need-loop-again Inv-loop μ-loop
 loop-again c =
@@ -131,18 +113,6 @@ returns-2 c =
 pub read-rows-spec : {M : Type 1} → statement M
 read-rows-spec =
     tie.close
-    (tie.spec
-    Inv-loop
-    μ-loop
-    no-rows-requires
-    loop-holds
-    read-row-requires
-    enum-known-ended
-    mul-rows
-    array-set-from-rows
-    enum-told
-    returns
-    add-k
-    loop-less
-    loop-again
+    (tie.spec Inv-loop μ-loop (λ c κs. search needs) loop-holds read-row-requires (λ c. search needs)
+    (λ c. search needs) (λ c. search needs) enum-told returns (λ c. search needs) (λ c. search needs) loop-again
     returns-2)

@@ -11,18 +11,6 @@ use borrow.Author.Needs.{needs}
 use Rattle.stereo_indices.proofs.steps.added.Statement.{statement}
 use Rattle.stereo_indices.proofs.steps.added.Tie as tie
 
-is-phase-requires : tie.Need-is-phase-requires
-is-phase-requires c κs = search needs
-
-magnitude-requires : tie.Need-magnitude-requires
-magnitude-requires c κs = search needs
-
-add-result : tie.Need-add-result
-add-result c = search needs
-
-cast-result : tie.Need-cast-result
-cast-result c = search needs
-
 returns : tie.Need-returns
 unfolding added
 returns c =
@@ -35,12 +23,6 @@ returns c =
           ∙ c .before .if1 .taken,
       toZ-ofZ w8 _ (a .fits .x),
     )
-
-cast-difference : tie.Need-cast-difference
-cast-difference c = search needs
-
-middle-requires : tie.Need-middle-requires
-middle-requires c κs = search needs
 
 sub-difference : tie.Need-sub-difference
 sub-difference c =
@@ -68,15 +50,5 @@ returns-2 c =
 pub added-spec : {M : Type 1} → statement M
 added-spec =
     tie.close
-    (tie.spec
-    is-phase-requires
-    magnitude-requires
-    add-result
-    cast-result
-    returns
-    cast-difference
-    middle-requires
-    sub-difference
-    cast-result-2
-    add-result-2
-    returns-2)
+    (tie.spec (λ c κs. search needs) (λ c κs. search needs) (λ c. search needs) (λ c. search needs) returns
+    (λ c. search needs) (λ c κs. search needs) sub-difference cast-result-2 add-result-2 returns-2)

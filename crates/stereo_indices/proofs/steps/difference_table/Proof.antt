@@ -6,12 +6,6 @@ use borrow.Author.Needs.{needs}
 use Rattle.stereo_indices.proofs.steps.difference_table.Statement.{statement}
 use Rattle.stereo_indices.proofs.steps.difference_table.Tie as tie
 
-first-table-requires : tie.Need-first-table-requires
-first-table-requires c κs = search needs
-
-add-result : tie.Need-add-result
-add-result c = search needs
-
 returns : tie.Need-returns
 unfolding differenceNumber
 returns c = (rw (c .before .first-table .ensures .0, eq-eqb _ _ (c .if1 .taken)), omega arith, omega arith)
@@ -21,4 +15,6 @@ unfolding differenceNumber
 returns-2 c = (rw (c .before .first-table .ensures .0, ne-eqb _ _ (c .if1 .left)) (omega arith), omega arith, omega arith)
 
 pub difference-table-spec : {M : Type 1} → statement M
-difference-table-spec = tie.close (tie.spec first-table-requires add-result returns returns-2)
+difference-table-spec =
+    tie.close
+    (tie.spec (λ c κs. search needs) (λ c. search needs) returns returns-2)

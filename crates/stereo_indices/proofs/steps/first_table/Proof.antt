@@ -13,15 +13,6 @@ returns : tie.Need-returns
 unfolding firstNumber
 returns c = (rw (c .before .enum-told .given .1, le-leb _ _ (c .if1 .taken)), omega arith, omega arith)
 
-enum-told-2 : tie.Need-enum-told-2
-enum-told-2 c = search needs
-
-enum-told-3 : tie.Need-enum-told-3
-enum-told-3 c = search needs
-
-enum-told-4 : tie.Need-enum-told-4
-enum-told-4 c = search needs
-
 returns-2 : tie.Need-returns-2
 unfolding firstNumber
 returns-2 c = (rw (c .before .enum-told .given .1, lt-leb _ _ (c .if1 .left)), omega arith, omega arith)
@@ -41,13 +32,5 @@ returns-5 c = (rw (c .enum-told4 .given .1), omega arith, omega arith)
 pub first-table-spec : {M : Type 1} → statement M
 first-table-spec =
     tie.close
-    (tie.spec
-    enum-told
-    returns
-    enum-told-2
-    enum-told-3
-    enum-told-4
-    returns-2
-    returns-3
-    returns-4
-    returns-5)
+    (tie.spec enum-told returns (λ c. search needs) (λ c. search needs) (λ c. search needs) returns-2 returns-3
+    returns-4 returns-5)

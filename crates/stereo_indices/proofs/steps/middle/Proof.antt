@@ -8,9 +8,6 @@ use Rattle.stereo_indices.proofs.KindLaws.{through, pos-by-kind, middle
 use Rattle.stereo_indices.proofs.steps.middle.Statement.{statement}
 use Rattle.stereo_indices.proofs.steps.middle.Tie as tie
 
-by-kind-requires : tie.Need-by-kind-requires
-by-kind-requires c κs = search needs
-
 returns : tie.Need-returns
 unfolding middle
 returns c =
@@ -18,4 +15,4 @@ returns c =
     through w16 30 (c .by-kind .ensures ∙ pos-by-kind (a .kind) (a .mode) 30 14 7 0) (middle-le (a .kind) (a .mode)) (omega arith)
 
 pub middle-spec : {M : Type 1} → statement M
-middle-spec = tie.close (tie.spec by-kind-requires returns)
+middle-spec = tie.close (tie.spec (λ c κs. search needs) returns)

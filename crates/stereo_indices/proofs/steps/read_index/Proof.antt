@@ -69,26 +69,8 @@ tested c =
       wide (m .before .before),
     ) at (c .within .ensures)
 
-difference-table-requires : tie.Need-difference-table-requires
-difference-table-requires c κs = search needs
-
-table-word-requires : tie.Need-table-word-requires
-table-word-requires c κs = search needs
-
-enum-known-entry : tie.Need-enum-known-entry
-enum-known-entry c = search needs
-
 added-requires : tie.Need-added-requires
 added-requires c κs = entry-small c
-
-least-requires : tie.Need-least-requires
-least-requires c κs = search needs
-
-most-requires : tie.Need-most-requires
-most-requires c κs = search needs
-
-within-requires : tie.Need-within-requires
-within-requires c κs = search needs
 
 cast-t21 : tie.Need-cast-t21
 cast-t21 c =
@@ -100,9 +82,6 @@ returns c =
     let g = sym (tested (c .before)) ∙ c .if1 .taken in
     let w = c .before .before .before .before in
     rw (wide w, thru w8 15 (in-range-abs _ _ _ g) (omega arith)) (index-got _ _ _ _ _ _ _ _ _ (word-is (w .before)) g)
-
-enum-known-number : tie.Need-enum-known-number
-enum-known-number c = search needs
 
 returns-2 : tie.Need-returns-2
 returns-2 c =
@@ -121,16 +100,6 @@ returns-3 c =
 pub read-index-spec : {M : Type 1} → statement M
 read-index-spec =
     tie.close
-    (tie.spec
-    difference-table-requires
-    table-word-requires
-    enum-known-entry
-    added-requires
-    least-requires
-    most-requires
-    within-requires
-    cast-t21
-    returns
-    enum-known-number
-    returns-2
-    returns-3)
+    (tie.spec (λ c κs. search needs) (λ c κs. search needs) (λ c. search needs) added-requires
+    (λ c κs. search needs) (λ c κs. search needs) (λ c κs. search needs) cast-t21 returns (λ c. search needs)
+    returns-2 returns-3)

@@ -13,36 +13,6 @@ above n t h e = omega arith
 last : (t : ℕ) → 21 ≤ t → t ≤ 21 → t ≡ 21
 last t h g = omega arith
 
-level-default-frequency-word-requires : tie.Need-level-default-frequency-word-requires
-level-default-frequency-word-requires c κs = search needs
-
-level-default-time-word-requires : tie.Need-level-default-time-word-requires
-level-default-time-word-requires c κs = search needs
-
-level-fine-frequency-word-requires : tie.Need-level-fine-frequency-word-requires
-level-fine-frequency-word-requires c κs = search needs
-
-level-fine-time-word-requires : tie.Need-level-fine-time-word-requires
-level-fine-time-word-requires c κs = search needs
-
-coherence-frequency-word-requires : tie.Need-coherence-frequency-word-requires
-coherence-frequency-word-requires c κs = search needs
-
-coherence-time-word-requires : tie.Need-coherence-time-word-requires
-coherence-time-word-requires c κs = search needs
-
-phase-frequency-word-requires : tie.Need-phase-frequency-word-requires
-phase-frequency-word-requires c κs = search needs
-
-phase-time-word-requires : tie.Need-phase-time-word-requires
-phase-time-word-requires c κs = search needs
-
-overall-phase-frequency-word-requires : tie.Need-overall-phase-frequency-word-requires
-overall-phase-frequency-word-requires c κs = search needs
-
-overall-phase-time-word-requires : tie.Need-overall-phase-time-word-requires
-overall-phase-time-word-requires c κs = search needs
-
 returns : tie.Need-returns
 returns c = c .level-default-frequency-word .ensures ∙ rw (c .before .match .keys1)
 
@@ -85,24 +55,7 @@ returns-10 c =
 pub table-word-spec : {M : Type 1} → statement M
 table-word-spec =
     tie.close
-    (tie.spec
-    level-default-frequency-word-requires
-    level-default-time-word-requires
-    level-fine-frequency-word-requires
-    level-fine-time-word-requires
-    coherence-frequency-word-requires
-    coherence-time-word-requires
-    phase-frequency-word-requires
-    phase-time-word-requires
-    overall-phase-frequency-word-requires
-    overall-phase-time-word-requires
-    returns
-    returns-2
-    returns-3
-    returns-4
-    returns-5
-    returns-6
-    returns-7
-    returns-8
-    returns-9
-    returns-10)
+    (tie.spec (λ c κs. search needs) (λ c κs. search needs) (λ c κs. search needs) (λ c κs. search needs)
+    (λ c κs. search needs) (λ c κs. search needs) (λ c κs. search needs) (λ c κs. search needs)
+    (λ c κs. search needs) (λ c κs. search needs) returns returns-2 returns-3 returns-4 returns-5 returns-6
+    returns-7 returns-8 returns-9 returns-10)

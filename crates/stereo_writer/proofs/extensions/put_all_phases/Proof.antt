@@ -41,22 +41,10 @@ returns-2 c = let l = c .before .before in
     let e : l .loop .k ≡ a .n = omega arith in
     wrote-as (wrote-most (l .loop .inv .5) (omega arith)) (rw (eq-eqb (a .on) 1 (l .before .before .before .if1 .left), e))
 
-mul-p : tie.Need-mul-p Inv-loop μ-loop
-mul-p c = search needs
-
-array-copy-out-p : tie.Need-array-copy-out-p Inv-loop μ-loop
-array-copy-out-p c = search needs
-
 put-phases-requires : tie.Need-put-phases-requires Inv-loop μ-loop
 put-phases-requires c κs = let l = c .before .before .before .before in
     let p = l .before .before .before .before .before .before .before .pre in
     (room-after (l .loop .inv .5) (p .0) (omega arith), p .1)
-
-add-k : tie.Need-add-k Inv-loop μ-loop
-add-k c = search needs
-
-loop-less : tie.Need-loop-less Inv-loop μ-loop
-loop-less c = search needs
 
 loop-again : tie.Need-loop-again Inv-loop μ-loop
 loop-again c = let w = c .before .before .before .before .before .before in
@@ -87,18 +75,5 @@ returns-3 c = let l = c .before in
 pub put-all-phases-spec : {M : Type 1} → statement M
 put-all-phases-spec =
     tie.close
-    (tie.spec
-    Inv-loop
-    μ-loop
-    returns
-    loop-holds
-    same-length
-    returns-2
-    mul-p
-    array-copy-out-p
-    put-phases-requires
-    add-k
-    loop-less
-    loop-again
-    same-length-2
-    returns-3)
+    (tie.spec Inv-loop μ-loop returns loop-holds same-length returns-2 (λ c. search needs) (λ c. search needs)
+    put-phases-requires (λ c. search needs) (λ c. search needs) loop-again same-length-2 returns-3)

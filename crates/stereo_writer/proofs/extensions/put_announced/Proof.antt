@@ -9,18 +9,6 @@ use Rattle.stereo_writer.proofs.extensions.put_announced.Tie as tie
 returns : tie.Need-returns
 returns c = wrote-nothing (rw (c .if1 .taken))
 
-put-body-requires : tie.Need-put-body-requires
-put-body-requires c κs = search needs
-
-at-most-seven-requires : tie.Need-at-most-seven-requires
-at-most-seven-requires c κs = search needs
-
-put-field-requires : tie.Need-put-field-requires
-put-field-requires c κs = search needs
-
-same-length : tie.Need-same-length
-same-length c = search needs
-
 returns-2 : tie.Need-returns-2
 unfolding spellPart
 returns-2 c = let b = c .before .before in
@@ -33,10 +21,5 @@ returns-2 c = let b = c .before .before in
 pub put-announced-spec : {M : Type 1} → statement M
 put-announced-spec =
     tie.close
-    (tie.spec
-    returns
-    put-body-requires
-    at-most-seven-requires
-    put-field-requires
-    same-length
+    (tie.spec returns (λ c κs. search needs) (λ c κs. search needs) (λ c κs. search needs) (λ c. search needs)
     returns-2)

@@ -6,21 +6,6 @@ use borrow.Author.Needs.{needs}
 use Rattle.stereo_writer.proofs.extensions.put_body.Statement.{statement}
 use Rattle.stereo_writer.proofs.extensions.put_body.Tie as tie
 
-put-field-requires : tie.Need-put-field-requires
-put-field-requires c κs = search needs
-
-put-field-requires-2 : tie.Need-put-field-requires-2
-put-field-requires-2 c κs = search needs
-
-put-all-phases-requires : tie.Need-put-all-phases-requires
-put-all-phases-requires c κs = search needs
-
-put-field-requires-3 : tie.Need-put-field-requires-3
-put-field-requires-3 c κs = search needs
-
-same-length : tie.Need-same-length
-same-length c = search needs
-
 returns : tie.Need-returns
 unfolding spellBody
 returns c = let d = c .before .before in
@@ -34,10 +19,5 @@ returns c = let d = c .before .before in
 pub put-body-spec : {M : Type 1} → statement M
 put-body-spec =
     tie.close
-    (tie.spec
-    put-field-requires
-    put-field-requires-2
-    put-all-phases-requires
-    put-field-requires-3
-    same-length
-    returns)
+    (tie.spec (λ c κs. search needs) (λ c κs. search needs) (λ c κs. search needs) (λ c κs. search needs)
+    (λ c. search needs) returns)

@@ -5,12 +5,6 @@ use borrow.Author.Needs.{needs}
 use Rattle.stereo_writer.proofs.extensions.put_escape.Statement.{statement}
 use Rattle.stereo_writer.proofs.extensions.put_escape.Tie as tie
 
-put-field-requires : tie.Need-put-field-requires
-put-field-requires c κs = search needs
-
-same-length : tie.Need-same-length
-same-length c = search needs
-
 returns : tie.Need-returns
 returns c = wrote-as (c .before .before .put-field .ensures) (rw (eq-eqb _ _ (c .before .before .before .before .if1 .taken)))
 
@@ -18,4 +12,6 @@ returns-2 : tie.Need-returns-2
 returns-2 c = wrote-nothing (rw (ne-eqb _ _ (c .if1 .left)))
 
 pub put-escape-spec : {M : Type 1} → statement M
-put-escape-spec = tie.close (tie.spec put-field-requires same-length returns returns-2)
+put-escape-spec =
+    tie.close
+    (tie.spec (λ c κs. search needs) (λ c. search needs) returns returns-2)

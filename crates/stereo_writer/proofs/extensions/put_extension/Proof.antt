@@ -11,21 +11,6 @@ returns : tie.Need-returns
 unfolding spellExtension
 returns c = wrote-nothing (rw (not-true (c .before .before .before .before .args .on) (c .if1 .taken)))
 
-put-field-requires : tie.Need-put-field-requires
-put-field-requires c κs = search needs
-
-put-escape-requires : tie.Need-put-escape-requires
-put-escape-requires c κs = search needs
-
-is-empty-requires : tie.Need-is-empty-requires
-is-empty-requires c κs = search needs
-
-put-announced-requires : tie.Need-put-announced-requires
-put-announced-requires c κs = search needs
-
-same-length : tie.Need-same-length
-same-length c = search needs
-
 returns-2 : tie.Need-returns-2
 unfolding spellExtension spellSent spellAnnounced
 returns-2 c = let k = c .before .before in
@@ -40,11 +25,5 @@ returns-2 c = let k = c .before .before in
 pub put-extension-spec : {M : Type 1} → statement M
 put-extension-spec =
     tie.close
-    (tie.spec
-    returns
-    put-field-requires
-    put-escape-requires
-    is-empty-requires
-    put-announced-requires
-    same-length
-    returns-2)
+    (tie.spec returns (λ c κs. search needs) (λ c κs. search needs) (λ c κs. search needs) (λ c κs. search needs)
+    (λ c. search needs) returns-2)

@@ -5,19 +5,12 @@ use borrow.Author.Needs.{needs}
 use Rattle.stereo_writer.proofs.extensions.put_phases.Statement.{statement}
 use Rattle.stereo_writer.proofs.extensions.put_phases.Tie as tie
 
-put-row-requires : tie.Need-put-row-requires
-put-row-requires c κs = search needs
-
-put-row-requires-2 : tie.Need-put-row-requires-2
-put-row-requires-2 c κs = search needs
-
-same-length : tie.Need-same-length
-same-length c = search needs
-
 returns : tie.Need-returns
 returns c = let b = c .before .before in
     let a = b .before .before .before .before .before in
     wrote-then (a .put-row .ensures) (b .put-row2 .ensures) (omega arith)
 
 pub put-phases-spec : {M : Type 1} → statement M
-put-phases-spec = tie.close (tie.spec put-row-requires put-row-requires-2 same-length returns)
+put-phases-spec =
+    tie.close
+    (tie.spec (λ c κs. search needs) (λ c κs. search needs) (λ c. search needs) returns)

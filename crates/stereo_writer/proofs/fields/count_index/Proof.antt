@@ -5,15 +5,9 @@ use borrow.Author.Needs.{needs}
 use Rattle.stereo_writer.proofs.fields.count_index.Statement.{statement}
 use Rattle.stereo_writer.proofs.fields.count_index.Tie as tie
 
-at-most-four-requires : tie.Need-at-most-four-requires
-at-most-four-requires c κs = search needs
-
 returns : tie.Need-returns
 unfolding countIndex
 returns c = rw (eq-eqb _ _ (c .before .if1 .taken), ← (c .before .before .at-most-four .ensures), c .if2 .taken)
-
-sub-result : tie.Need-sub-result
-sub-result c = search needs
 
 returns-2 : tie.Need-returns-2
 unfolding countIndex
@@ -29,4 +23,5 @@ returns-4 c = rw (ne-eqb _ _ (c .before .if1 .left), ne-eqb _ _ (c .if3 .left)) 
 
 pub count-index-spec : {M : Type 1} → statement M
 count-index-spec =
-    tie.close (tie.spec at-most-four-requires returns sub-result returns-2 returns-3 returns-4)
+    tie.close
+    (tie.spec (λ c κs. search needs) returns (λ c. search needs) returns-2 returns-3 returns-4)

@@ -38,21 +38,9 @@ returns-2 c = let l = c .before .before in
     let e : l .loop .k ≡ a .n = omega arith in
     wrote-as (wrote-most (l .loop .inv .3) (omega arith)) (rw (eq-eqb (a .class) 1 (l .before .if1 .left), e))
 
-mul-put-field : tie.Need-mul-put-field Inv-loop μ-loop
-mul-put-field c = search needs
-
-array-read-put-field : tie.Need-array-read-put-field Inv-loop μ-loop
-array-read-put-field c = search needs
-
 put-field-requires : tie.Need-put-field-requires Inv-loop μ-loop
 put-field-requires c κs = let l = c .before .before .before in
     (room-after (l .loop .inv .3) (l .before .before .before .pre) (omega arith), omega arith)
-
-add-k : tie.Need-add-k Inv-loop μ-loop
-add-k c = search needs
-
-loop-less : tie.Need-loop-less Inv-loop μ-loop
-loop-less c = search needs
 
 loop-again : tie.Need-loop-again Inv-loop μ-loop
 loop-again c = let l = c .before .before .before .before .before .before in
@@ -79,18 +67,5 @@ returns-3 c = let l = c .before in
 pub put-borders-spec : {M : Type 1} → statement M
 put-borders-spec =
     tie.close
-    (tie.spec
-    Inv-loop
-    μ-loop
-    returns
-    loop-holds
-    same-length
-    returns-2
-    mul-put-field
-    array-read-put-field
-    put-field-requires
-    add-k
-    loop-less
-    loop-again
-    same-length-2
-    returns-3)
+    (tie.spec Inv-loop μ-loop returns loop-holds same-length returns-2 (λ c. search needs) (λ c. search needs)
+    put-field-requires (λ c. search needs) (λ c. search needs) loop-again same-length-2 returns-3)

@@ -6,24 +6,6 @@ use borrow.Author.Needs.{needs}
 use Rattle.stereo_writer.proofs.fields.put_fields.Statement.{statement}
 use Rattle.stereo_writer.proofs.fields.put_fields.Tie as tie
 
-put-field-requires : tie.Need-put-field-requires
-put-field-requires c κs = search needs
-
-put-mode-requires : tie.Need-put-mode-requires
-put-mode-requires c κs = search needs
-
-put-field-requires-2 : tie.Need-put-field-requires-2
-put-field-requires-2 c κs = search needs
-
-put-mode-requires-2 : tie.Need-put-mode-requires-2
-put-mode-requires-2 c κs = search needs
-
-put-field-requires-3 : tie.Need-put-field-requires-3
-put-field-requires-3 c κs = search needs
-
-same-length : tie.Need-same-length
-same-length c = search needs
-
 returns : tie.Need-returns
 unfolding spellFields
 returns c = let e = c .before .before in
@@ -39,11 +21,5 @@ returns c = let e = c .before .before in
 pub put-fields-spec : {M : Type 1} → statement M
 put-fields-spec =
     tie.close
-    (tie.spec
-    put-field-requires
-    put-mode-requires
-    put-field-requires-2
-    put-mode-requires-2
-    put-field-requires-3
-    same-length
-    returns)
+    (tie.spec (λ c κs. search needs) (λ c κs. search needs) (λ c κs. search needs) (λ c κs. search needs)
+    (λ c κs. search needs) (λ c. search needs) returns)

@@ -7,24 +7,12 @@ use borrow.Author.Needs.{needs}
 use Rattle.stereo_writer.proofs.fields.put_header.Statement.{statement}
 use Rattle.stereo_writer.proofs.fields.put_header.Tie as tie
 
-put-field-requires : tie.Need-put-field-requires
-put-field-requires c κs = search needs
-
-put-fields-requires : tie.Need-put-fields-requires
-put-fields-requires c κs = search needs
-
-same-length : tie.Need-same-length
-same-length c = search needs
-
 returns : tie.Need-returns
 unfolding spellHeader
 returns c = let b = c .before .before in
     let t = b .before .before in
     let a = t .before .before .before .before in
     wrote-as (wrote-then (a .put-field .ensures) (b .put-fields .ensures) (omega arith)) (rw (eq-eqb _ _ (t .if1 .taken)))
-
-same-length-2 : tie.Need-same-length-2
-same-length-2 c = search needs
 
 returns-2 : tie.Need-returns-2
 unfolding spellHeader
@@ -34,4 +22,5 @@ returns-2 c = let a = c .before .before .before .before in
 pub put-header-spec : {M : Type 1} → statement M
 put-header-spec =
     tie.close
-    (tie.spec put-field-requires put-fields-requires same-length returns same-length-2 returns-2)
+    (tie.spec (λ c κs. search needs) (λ c κs. search needs) (λ c. search needs) returns (λ c. search needs)
+    returns-2)

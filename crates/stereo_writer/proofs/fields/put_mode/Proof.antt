@@ -6,12 +6,6 @@ use borrow.Author.Needs.{needs}
 use Rattle.stereo_writer.proofs.fields.put_mode.Statement.{statement}
 use Rattle.stereo_writer.proofs.fields.put_mode.Tie as tie
 
-put-field-requires : tie.Need-put-field-requires
-put-field-requires c κs = search needs
-
-same-length : tie.Need-same-length
-same-length c = search needs
-
 returns : tie.Need-returns
 unfolding spellMode
 returns c = wrote-as (c .before .before .put-field .ensures) (rw (eq-eqb _ _ (c .before .before .before .before .if1 .taken)))
@@ -21,4 +15,6 @@ unfolding spellMode
 returns-2 c = wrote-nothing (rw (ne-eqb _ _ (c .if1 .left)))
 
 pub put-mode-spec : {M : Type 1} → statement M
-put-mode-spec = tie.close (tie.spec put-field-requires same-length returns returns-2)
+put-mode-spec =
+    tie.close
+    (tie.spec (λ c κs. search needs) (λ c. search needs) returns returns-2)

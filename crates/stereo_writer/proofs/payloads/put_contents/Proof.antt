@@ -6,18 +6,6 @@ use borrow.Author.Needs.{needs}
 use Rattle.stereo_writer.proofs.payloads.put_contents.Statement.{statement}
 use Rattle.stereo_writer.proofs.payloads.put_contents.Tie as tie
 
-setup-after-requires : tie.Need-setup-after-requires
-setup-after-requires c κs = search needs
-
-put-levels-requires : tie.Need-put-levels-requires
-put-levels-requires c κs = search needs
-
-put-rows-requires : tie.Need-put-rows-requires
-put-rows-requires c κs = search needs
-
-phase-records-requires : tie.Need-phase-records-requires
-phase-records-requires c κs = search needs
-
 put-extension-requires : tie.Need-put-extension-requires
 put-extension-requires c κs =
     let at-put-rows = c .before .before .before .before .before in
@@ -25,9 +13,6 @@ put-extension-requires c κs =
     let entry = at-put-levels .before .before .before .before .before .before .before .before in
     let two = wrote-then {most = 5481} (at-put-levels .put-levels .ensures) (at-put-rows .put-rows .ensures) (omega arith) in
     (room-after two (entry .pre .0) (omega arith), entry .pre .1)
-
-same-length : tie.Need-same-length
-same-length c = search needs
 
 returns : tie.Need-returns
 unfolding spelling spellingIn
@@ -43,11 +28,5 @@ returns c =
 pub put-contents-spec : {M : Type 1} → statement M
 put-contents-spec =
     tie.close
-    (tie.spec
-    setup-after-requires
-    put-levels-requires
-    put-rows-requires
-    phase-records-requires
-    put-extension-requires
-    same-length
-    returns)
+    (tie.spec (λ c κs. search needs) (λ c κs. search needs) (λ c κs. search needs) (λ c κs. search needs)
+    put-extension-requires (λ c. search needs) returns)

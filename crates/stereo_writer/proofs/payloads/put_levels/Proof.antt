@@ -5,18 +5,6 @@ use borrow.Author.Needs.{needs}
 use Rattle.stereo_writer.proofs.payloads.put_levels.Statement.{statement}
 use Rattle.stereo_writer.proofs.payloads.put_levels.Tie as tie
 
-put-header-requires : tie.Need-put-header-requires
-put-header-requires c κs = search needs
-
-put-frame-requires : tie.Need-put-frame-requires
-put-frame-requires c κs = search needs
-
-put-rows-requires : tie.Need-put-rows-requires
-put-rows-requires c κs = search needs
-
-same-length : tie.Need-same-length
-same-length c = search needs
-
 returns : tie.Need-returns
 returns c =
     let at-put-frame = c .before .before .before .before .before .before .before .before in
@@ -27,4 +15,4 @@ returns c =
 pub put-levels-spec : {M : Type 1} → statement M
 put-levels-spec =
     tie.close
-    (tie.spec put-header-requires put-frame-requires put-rows-requires same-length returns)
+    (tie.spec (λ c κs. search needs) (λ c κs. search needs) (λ c κs. search needs) (λ c. search needs) returns)

@@ -12,21 +12,6 @@ use borrow.Author.Needs.{needs}
 use Rattle.stereo_writer.proofs.rows.entry_to.Statement.{statement}
 use Rattle.stereo_writer.proofs.rows.entry_to.Tie as tie
 
-is-phase-requires : tie.Need-is-phase-requires
-is-phase-requires c κs = search needs
-
-magnitude-requires : tie.Need-magnitude-requires
-magnitude-requires c κs = search needs
-
-add-result : tie.Need-add-result
-add-result c = search needs
-
-magnitude-requires-2 : tie.Need-magnitude-requires-2
-magnitude-requires-2 c κs = search needs
-
-sub-result : tie.Need-sub-result
-sub-result c = search needs
-
 returns : tie.Need-returns
 unfolding entryTo
 returns c = let p = c .before .before .before in
@@ -48,9 +33,6 @@ cast-step-2 c = wide-fits _ (c .before .before .fits .x)
 
 sub-step : tie.Need-sub-step
 sub-step c = let a = c .before .before in gap-fits _ _ (a .fits .x) (a .fits .y)
-
-middle-requires : tie.Need-middle-requires
-middle-requires c κs = search needs
 
 add-step : tie.Need-add-step
 add-step c = let a = c .before .before .before in step-fits (a .args .kind) (a .args .mode) _ _ _ (a .fits .x) (a .fits .y)
@@ -95,20 +77,6 @@ returns-3 c = let a = c .before .before .before .before in
 pub entry-to-spec : {M : Type 1} → statement M
 entry-to-spec =
     tie.close
-    (tie.spec
-    is-phase-requires
-    magnitude-requires
-    add-result
-    magnitude-requires-2
-    sub-result
-    returns
-    cast-step
-    cast-step-2
-    sub-step
-    middle-requires
-    add-step
-    sub-result-2
-    cast-result
-    returns-2
-    cast-result-2
-    returns-3)
+    (tie.spec (λ c κs. search needs) (λ c κs. search needs) (λ c. search needs) (λ c κs. search needs)
+    (λ c. search needs) returns cast-step cast-step-2 sub-step (λ c κs. search needs) add-step sub-result-2
+    cast-result returns-2 cast-result-2 returns-3)

@@ -22,29 +22,14 @@ Inv-loop out₀ at kind mode time before xs codes lens count table place₀ i₀
 abbrev μ-loop : tie.MeasureT-loop
 μ-loop out₀ at kind mode time before xs codes lens count table place₀ i₀ out place i = count - i
 
-bands-requires : tie.Need-bands-requires Inv-loop μ-loop
-bands-requires c κs = search needs
-
-difference-table-requires : tie.Need-difference-table-requires Inv-loop μ-loop
-difference-table-requires c κs = search needs
-
 loop-holds : tie.Need-loop-holds Inv-loop μ-loop
 loop-holds c = (omega arith, search needs, wrote-none)
-
-entry-at-requires : tie.Need-entry-at-requires Inv-loop μ-loop
-entry-at-requires c κs = search needs
 
 put-word-requires : tie.Need-put-word-requires Inv-loop μ-loop
 put-word-requires c κs = let l = c .before .before .before in
     let p = l .before .before .before .before .before .before .pre in
     let n = l .before .before .bands .ensures .1 in
     (room-after (l .loop .inv .2) (p .0) (omega arith), p .1)
-
-add-i : tie.Need-add-i Inv-loop μ-loop
-add-i c = search needs
-
-loop-less : tie.Need-loop-less Inv-loop μ-loop
-loop-less c = search needs
 
 loop-again : tie.Need-loop-again Inv-loop μ-loop
 loop-again c = let l = c .before .before .before .before .before .before in
@@ -74,16 +59,5 @@ returns c = let l = c .before in
 pub put-indices-spec : {M : Type 1} → statement M
 put-indices-spec =
     tie.close
-    (tie.spec
-    Inv-loop
-    μ-loop
-    bands-requires
-    difference-table-requires
-    loop-holds
-    entry-at-requires
-    put-word-requires
-    add-i
-    loop-less
-    loop-again
-    same-length
-    returns)
+    (tie.spec Inv-loop μ-loop (λ c κs. search needs) (λ c κs. search needs) loop-holds (λ c κs. search needs)
+    put-word-requires (λ c. search needs) (λ c. search needs) loop-again same-length returns)

@@ -40,22 +40,10 @@ returns-2 c = let l = c .before .before in
     let e : l .loop .k ≡ a .n = omega arith in
     wrote-as (wrote-most (l .loop .inv .4) (omega arith)) (rw (not-false (a .on) (l .before .if1 .left), e))
 
-mul-row : tie.Need-mul-row Inv-loop μ-loop
-mul-row c = search needs
-
-array-copy-out-row : tie.Need-array-copy-out-row Inv-loop μ-loop
-array-copy-out-row c = search needs
-
 put-row-requires : tie.Need-put-row-requires Inv-loop μ-loop
 put-row-requires c κs = let l = c .before .before .before .before in
     let p = l .before .before .before .before .before .pre in
     (room-after (l .loop .inv .4) (p .0) (omega arith), p .1)
-
-add-k : tie.Need-add-k Inv-loop μ-loop
-add-k c = search needs
-
-loop-less : tie.Need-loop-less Inv-loop μ-loop
-loop-less c = search needs
 
 loop-again : tie.Need-loop-again Inv-loop μ-loop
 loop-again c =
@@ -85,18 +73,5 @@ returns-3 c = let l = c .before in
 pub put-rows-spec : {M : Type 1} → statement M
 put-rows-spec =
     tie.close
-    (tie.spec
-    Inv-loop
-    μ-loop
-    returns
-    loop-holds
-    same-length
-    returns-2
-    mul-row
-    array-copy-out-row
-    put-row-requires
-    add-k
-    loop-less
-    loop-again
-    same-length-2
-    returns-3)
+    (tie.spec Inv-loop μ-loop returns loop-holds same-length returns-2 (λ c. search needs) (λ c. search needs)
+    put-row-requires (λ c. search needs) (λ c. search needs) loop-again same-length-2 returns-3)

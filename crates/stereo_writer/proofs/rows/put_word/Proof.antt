@@ -4,22 +4,11 @@ use borrow.Author.Needs.{needs}
 use Rattle.stereo_writer.proofs.rows.put_word.Statement.{statement}
 use Rattle.stereo_writer.proofs.rows.put_word.Tie as tie
 
-entry-word-requires : tie.Need-entry-word-requires
-entry-word-requires c κs = search needs
-
-cast-put-field : tie.Need-cast-put-field
-cast-put-field c = search needs
-
-put-field-requires : tie.Need-put-field-requires
-put-field-requires c κs = search needs
-
-same-length : tie.Need-same-length
-same-length c = search needs
-
 returns : tie.Need-returns
 returns c = let w = c .before .before .before .before .before in
     wrote-as (wrote-most (c .before .before .put-field .ensures) (w .entry-word .ensures .1)) (w .entry-word .ensures .0)
 
 pub put-word-spec : {M : Type 1} → statement M
 put-word-spec =
-    tie.close (tie.spec entry-word-requires cast-put-field put-field-requires same-length returns)
+    tie.close
+    (tie.spec (λ c κs. search needs) (λ c. search needs) (λ c κs. search needs) (λ c. search needs) returns)

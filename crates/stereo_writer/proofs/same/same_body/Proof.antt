@@ -10,12 +10,9 @@ returns : tie.Need-returns
 unfolding sameBody
 returns c = rw (ne-eqb _ _ (c .if1 .taken))
 
-same-all-phases-requires : tie.Need-same-all-phases-requires
-same-all-phases-requires c κs = search needs
-
 returns-2 : tie.Need-returns-2
 unfolding sameBody
 returns-2 c = c .same-all-phases .ensures ∙ rw (eq-eqb _ _ (c .before .before .before .if1 .left))
 
 pub same-body-spec : {M : Type 1} → statement M
-same-body-spec = tie.close (tie.spec returns same-all-phases-requires returns-2)
+same-body-spec = tie.close (tie.spec returns (λ c κs. search needs) returns-2)

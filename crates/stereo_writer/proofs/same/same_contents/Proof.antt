@@ -6,15 +6,9 @@ use borrow.Author.Needs.{needs}
 use Rattle.stereo_writer.proofs.same.same_contents.Statement.{statement}
 use Rattle.stereo_writer.proofs.same.same_contents.Tie as tie
 
-same-header-requires : tie.Need-same-header-requires
-same-header-requires c κs = search needs
-
 returns : tie.Need-returns
 unfolding sameContents
 returns c = rw (← (c .before .same-header .ensures), not-true (c .before .same-header .result) (c .if1 .taken))
-
-same-frame-requires : tie.Need-same-frame-requires
-same-frame-requires c κs = search needs
 
 returns-2 : tie.Need-returns-2
 unfolding sameContents
@@ -25,9 +19,6 @@ returns-2 c = let t = c .before .before .before .before in
       ← (c .before .same-frame .ensures),
       not-true (c .before .same-frame .result) (c .if2 .taken),
     )
-
-same-kinds-requires : tie.Need-same-kinds-requires
-same-kinds-requires c κs = search needs
 
 returns-3 : tie.Need-returns-3
 unfolding sameContents
@@ -41,9 +32,6 @@ returns-3 c = let f = c .before .before in
       ← (c .before .same-kinds .ensures),
       not-true (c .before .same-kinds .result) (c .if3 .taken),
     )
-
-same-extension-requires : tie.Need-same-extension-requires
-same-extension-requires c κs = search needs
 
 returns-4 : tie.Need-returns-4
 unfolding sameContents
@@ -63,12 +51,5 @@ returns-4 c = let k = c .before .before .before in
 pub same-contents-spec : {M : Type 1} → statement M
 same-contents-spec =
     tie.close
-    (tie.spec
-    same-header-requires
-    returns
-    same-frame-requires
-    returns-2
-    same-kinds-requires
-    returns-3
-    same-extension-requires
-    returns-4)
+    (tie.spec (λ c κs. search needs) returns (λ c κs. search needs) returns-2 (λ c κs. search needs) returns-3
+    (λ c κs. search needs) returns-4)

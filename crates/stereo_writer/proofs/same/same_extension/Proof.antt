@@ -21,9 +21,6 @@ returns-3 c =
     let at-if1 = at-if2 .before .before .before in
     rw (eq-eqb _ _ (at-if1 .if1 .left), eq-eqb _ _ (at-if2 .if2 .left), ne-eqb _ _ (c .if3 .taken))
 
-same-part-requires : tie.Need-same-part-requires
-same-part-requires c κs = search needs
-
 returns-4 : tie.Need-returns-4
 unfolding sameExtension
 returns-4 c = let t = c .before .before .before in
@@ -34,4 +31,6 @@ returns-4 c = let t = c .before .before .before in
     )
 
 pub same-extension-spec : {M : Type 1} → statement M
-same-extension-spec = tie.close (tie.spec returns returns-2 returns-3 same-part-requires returns-4)
+same-extension-spec =
+    tie.close
+    (tie.spec returns returns-2 returns-3 (λ c κs. search needs) returns-4)

@@ -14,13 +14,12 @@ returns-2 : tie.Need-returns-2
 unfolding sameFrame
 returns-2 c = rw (eq-eqb _ _ (c .before .before .before .if1 .left), ne-eqb _ _ (c .if2 .taken))
 
-same-borders-requires : tie.Need-same-borders-requires
-same-borders-requires c κs = search needs
-
 returns-3 : tie.Need-returns-3
 unfolding sameFrame
 returns-3 c = let t = c .before .before .before in
     c .same-borders .ensures ∙ rw (eq-eqb _ _ (t .before .before .before .if1 .left), eq-eqb _ _ (t .if2 .left))
 
 pub same-frame-spec : {M : Type 1} → statement M
-same-frame-spec = tie.close (tie.spec returns returns-2 same-borders-requires returns-3)
+same-frame-spec =
+    tie.close
+    (tie.spec returns returns-2 (λ c κs. search needs) returns-3)

@@ -22,23 +22,11 @@ abbrev μ-loop : tie.MeasureT-loop
 loop-holds : tie.Need-loop-holds Inv-loop μ-loop
 loop-holds c = same-start sameIndex (pos 0) 34 _ _ (search needs) (search needs)
 
-array-copy-out-if1 : tie.Need-array-copy-out-if1 Inv-loop μ-loop
-array-copy-out-if1 c = search needs
-
-array-copy-out-if1-2 : tie.Need-array-copy-out-if1-2 Inv-loop μ-loop
-array-copy-out-if1-2 c = search needs
-
 returns : tie.Need-returns Inv-loop μ-loop
 returns c = let l = c .before .before .before .before .loop in
     let a = c .before .before .before .before .before .args in
     same-stop sameIndex (pos 0) (l .inv) (omega arith)
     (index-differs (getD (a .t1) (l .i) (pos 0)) (getD (a .t2) (l .i) (pos 0)) (λ e. c .if1 .taken (ap (ofZ w8) e)))
-
-add-i : tie.Need-add-i Inv-loop μ-loop
-add-i c = search needs
-
-loop-less : tie.Need-loop-less Inv-loop μ-loop
-loop-less c = search needs
 
 loop-again : tie.Need-loop-again Inv-loop μ-loop
 loop-again c = let l = c .before .before .before .before .loop in
@@ -53,14 +41,5 @@ returns-2 c = same-done sameIndex (pos 0) (c .before .loop .inv) (omega arith)
 pub same-indices-spec : {M : Type 1} → statement M
 same-indices-spec =
     tie.close
-    (tie.spec
-    Inv-loop
-    μ-loop
-    loop-holds
-    array-copy-out-if1
-    array-copy-out-if1-2
-    returns
-    add-i
-    loop-less
-    loop-again
-    returns-2)
+    (tie.spec Inv-loop μ-loop loop-holds (λ c. search needs) (λ c. search needs) returns (λ c. search needs)
+    (λ c. search needs) loop-again returns-2)

@@ -14,13 +14,12 @@ returns-2 : tie.Need-returns-2
 unfolding samePart
 returns-2 c = rw (eq-eqb _ _ (c .before .before .before .if1 .left), ne-eqb _ _ (c .if2 .taken))
 
-same-body-requires : tie.Need-same-body-requires
-same-body-requires c κs = search needs
-
 returns-3 : tie.Need-returns-3
 unfolding samePart
 returns-3 c = let t = c .before .before .before in
     c .same-body .ensures ∙ rw (eq-eqb _ _ (t .before .before .before .if1 .left), eq-eqb _ _ (t .if2 .left))
 
 pub same-part-spec : {M : Type 1} → statement M
-same-part-spec = tie.close (tie.spec returns returns-2 same-body-requires returns-3)
+same-part-spec =
+    tie.close
+    (tie.spec returns returns-2 (λ c κs. search needs) returns-3)

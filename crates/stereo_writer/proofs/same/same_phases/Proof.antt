@@ -6,15 +6,9 @@ use borrow.Author.Needs.{needs}
 use Rattle.stereo_writer.proofs.same.same_phases.Statement.{statement}
 use Rattle.stereo_writer.proofs.same.same_phases.Tie as tie
 
-same-row-requires : tie.Need-same-row-requires
-same-row-requires c κs = search needs
-
 returns : tie.Need-returns
 unfolding samePhases
 returns c = rw (← (c .before .same-row .ensures), not-true (c .before .same-row .result) (c .if1 .taken))
-
-same-row-requires-2 : tie.Need-same-row-requires-2
-same-row-requires-2 c κs = search needs
 
 returns-2 : tie.Need-returns-2
 unfolding samePhases
@@ -22,4 +16,6 @@ returns-2 c = let t = c .before .before .before in
     c .same-row2 .ensures ∙ rw (← (t .before .same-row .ensures), not-false (t .before .same-row .result) (t .if1 .left))
 
 pub same-phases-spec : {M : Type 1} → statement M
-same-phases-spec = tie.close (tie.spec same-row-requires returns same-row-requires-2 returns-2)
+same-phases-spec =
+    tie.close
+    (tie.spec (λ c κs. search needs) returns (λ c κs. search needs) returns-2)

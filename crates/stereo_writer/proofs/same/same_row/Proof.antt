@@ -10,12 +10,9 @@ returns : tie.Need-returns
 unfolding sameRow
 returns c = rw (ne-eqb _ _ (c .if1 .taken))
 
-same-indices-requires : tie.Need-same-indices-requires
-same-indices-requires c κs = search needs
-
 returns-2 : tie.Need-returns-2
 unfolding sameRow
 returns-2 c = c .same-indices .ensures ∙ rw (eq-eqb _ _ (c .before .before .before .if1 .left))
 
 pub same-row-spec : {M : Type 1} → statement M
-same-row-spec = tie.close (tie.spec returns same-indices-requires returns-2)
+same-row-spec = tie.close (tie.spec returns (λ c κs. search needs) returns-2)

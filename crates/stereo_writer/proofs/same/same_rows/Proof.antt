@@ -19,30 +19,9 @@ abbrev μ-loop : tie.MeasureT-loop
 loop-holds : tie.Need-loop-holds Inv-loop μ-loop
 loop-holds c = same-start sameRow (record { time = 0; indices = [] }) 4 _ _ (search needs) (search needs)
 
-mul-x : tie.Need-mul-x Inv-loop μ-loop
-mul-x c = search needs
-
-array-copy-out-x : tie.Need-array-copy-out-x Inv-loop μ-loop
-array-copy-out-x c = search needs
-
-mul-y : tie.Need-mul-y Inv-loop μ-loop
-mul-y c = search needs
-
-array-copy-out-y : tie.Need-array-copy-out-y Inv-loop μ-loop
-array-copy-out-y c = search needs
-
-same-row-requires : tie.Need-same-row-requires Inv-loop μ-loop
-same-row-requires c κs = search needs
-
 returns : tie.Need-returns Inv-loop μ-loop
 returns c = same-stop sameRow (record { time = 0; indices = [] }) (c .before .before .before .before .before .loop .inv) (omega arith)
     (sym (c .before .same-row .ensures) ∙ not-true (c .before .same-row .result) (c .if1 .taken))
-
-add-i : tie.Need-add-i Inv-loop μ-loop
-add-i c = search needs
-
-loop-less : tie.Need-loop-less Inv-loop μ-loop
-loop-less c = search needs
 
 loop-again : tie.Need-loop-again Inv-loop μ-loop
 loop-again c = same-more sameRow (record { time = 0; indices = [] }) (c .before .before .before .before .before .loop .inv)
@@ -54,17 +33,6 @@ returns-2 c = same-done sameRow (record { time = 0; indices = [] }) (c .before .
 pub same-rows-spec : {M : Type 1} → statement M
 same-rows-spec =
     tie.close
-    (tie.spec
-    Inv-loop
-    μ-loop
-    loop-holds
-    mul-x
-    array-copy-out-x
-    mul-y
-    array-copy-out-y
-    same-row-requires
-    returns
-    add-i
-    loop-less
-    loop-again
+    (tie.spec Inv-loop μ-loop loop-holds (λ c. search needs) (λ c. search needs) (λ c. search needs)
+    (λ c. search needs) (λ c κs. search needs) returns (λ c. search needs) (λ c. search needs) loop-again
     returns-2)

@@ -3,17 +3,8 @@ use borrow.Author.Needs.{needs}
 use Rattle.stereo_writer.proofs.writing.is_read_back.Statement.{statement}
 use Rattle.stereo_writer.proofs.writing.is_read_back.Tie as tie
 
-read-payload-requires : tie.Need-read-payload-requires
-read-payload-requires c κs = search needs
-
 enum-told : tie.Need-enum-told
 enum-told c = search needs
-
-same-contents-requires : tie.Need-same-contents-requires
-same-contents-requires c κs = search needs
-
-enum-told-2 : tie.Need-enum-told-2
-enum-told-2 c = search needs
 
 returns : tie.Need-returns
 returns c = let r = c .before .before .before .before in
@@ -26,4 +17,4 @@ returns-2 c = let r = c .before .before .before in
 pub is-read-back-spec : {M : Type 1} → statement M
 is-read-back-spec =
     tie.close
-    (tie.spec read-payload-requires enum-told same-contents-requires enum-told-2 returns returns-2)
+    (tie.spec (λ c κs. search needs) enum-told (λ c κs. search needs) (λ c. search needs) returns returns-2)

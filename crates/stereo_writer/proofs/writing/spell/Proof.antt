@@ -13,18 +13,6 @@ use borrow.Author.Needs.{needs}
 use Rattle.stereo_writer.proofs.writing.spell.Statement.{statement}
 use Rattle.stereo_writer.proofs.writing.spell.Tie as tie
 
-codes-requires : tie.Need-codes-requires
-codes-requires c κs = search needs
-
-lens-requires : tie.Need-lens-requires
-lens-requires c κs = search needs
-
-slice-aggregate-put-contents : tie.Need-slice-aggregate-put-contents
-slice-aggregate-put-contents c = search needs
-
-slice-aggregate-put-contents-2 : tie.Need-slice-aggregate-put-contents-2
-slice-aggregate-put-contents-2 c = search needs
-
 put-contents-requires : tie.Need-put-contents-requires
 put-contents-requires c κs =
     let at-lens = c .before .before .before in
@@ -33,12 +21,6 @@ put-contents-requires c κs =
       record { size = ap length (entry .pre) ∙ length-replicate {A = ℕ} 1536 0; left = omega arith },
       (at-codes .codes .ensures, at-lens .lens .ensures),
     )
-
-slice-aggregate-is-read-back : tie.Need-slice-aggregate-is-read-back
-slice-aggregate-is-read-back c = search needs
-
-slice-aggregate-is-read-back-2 : tie.Need-slice-aggregate-is-read-back-2
-slice-aggregate-is-read-back-2 c = search needs
 
 is-read-back-requires : tie.Need-is-read-back-requires
 is-read-back-requires c κs =
@@ -49,9 +31,6 @@ is-read-back-requires c κs =
     let a = at-codes .before .before in
     let l = wrote-length p ∙ ap length (a .pre) ∙ length-replicate {A = ℕ} 1536 0 in
     (omega (arith, p .ends, p .short, l), (at-codes .codes .ensures, at-lens .lens .ensures))
-
-same-length : tie.Need-same-length
-same-length c = search needs
 
 returns : tie.Need-returns
 returns c =
@@ -67,14 +46,6 @@ returns c =
 pub spell-spec : {M : Type 1} → statement M
 spell-spec =
     tie.close
-    (tie.spec
-    codes-requires
-    lens-requires
-    slice-aggregate-put-contents
-    slice-aggregate-put-contents-2
-    put-contents-requires
-    slice-aggregate-is-read-back
-    slice-aggregate-is-read-back-2
-    is-read-back-requires
-    same-length
+    (tie.spec (λ c κs. search needs) (λ c κs. search needs) (λ c. search needs) (λ c. search needs)
+    put-contents-requires (λ c. search needs) (λ c. search needs) is-read-back-requires (λ c. search needs)
     returns)

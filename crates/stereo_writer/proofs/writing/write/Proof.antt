@@ -14,12 +14,6 @@ use borrow.Author.Needs.{needs}
 use Rattle.stereo_writer.proofs.writing.write.Statement.{statement}
 use Rattle.stereo_writer.proofs.writing.write.Tie as tie
 
-is-sound-requires : tie.Need-is-sound-requires
-is-sound-requires c κs = search needs
-
-refused-requires : tie.Need-refused-requires
-refused-requires c κs = search needs
-
 returns : tie.Need-returns
 unfolding writing writtenOver
 returns c =
@@ -27,18 +21,6 @@ returns c =
       c .refused .ensures ∙ rw (← (at-sound .is-sound .ensures), not-true (at-sound .is-sound .result) (c .before .if1 .taken)),
       rw (c .refused .ensures),
     )
-
-read-from-requires : tie.Need-read-from-requires
-read-from-requires c κs = search needs
-
-slice-aggregate-spell : tie.Need-slice-aggregate-spell
-slice-aggregate-spell c = search needs
-
-spell-requires : tie.Need-spell-requires
-spell-requires c κs = search needs
-
-refused-requires-2 : tie.Need-refused-requires-2
-refused-requires-2 c κs = search needs
 
 returns-2 : tie.Need-returns-2
 unfolding writing writtenOver
@@ -56,12 +38,6 @@ returns-2 c =
           ),
       rw (c .refused2 .ensures),
     )
-
-is-accepted-requires : tie.Need-is-accepted-requires
-is-accepted-requires c κs = search needs
-
-refused-requires-3 : tie.Need-refused-requires-3
-refused-requires-3 c κs = search needs
 
 returns-3 : tie.Need-returns-3
 unfolding writing writtenOver
@@ -82,12 +58,6 @@ returns-3 c =
           ),
       rw (c .refused3 .ensures),
     )
-
-bytes-for-requires : tie.Need-bytes-for-requires
-bytes-for-requires c κs = search needs
-
-refused-requires-4 : tie.Need-refused-requires-4
-refused-requires-4 c κs = search needs
 
 returns-4 : tie.Need-returns-4
 unfolding writing writtenOver
@@ -113,18 +83,6 @@ returns-4 c =
           ),
       rw (c .refused4 .ensures),
     )
-
-slice-aggregate-copy-out : tie.Need-slice-aggregate-copy-out
-slice-aggregate-copy-out c = search needs
-
-copy-out-requires : tie.Need-copy-out-requires
-copy-out-requires c κs = search needs
-
-carried-requires : tie.Need-carried-requires
-carried-requires c κs = search needs
-
-same-length : tie.Need-same-length
-same-length c = search needs
 
 returns-5 : tie.Need-returns-5
 unfolding writing writtenOver
@@ -158,23 +116,7 @@ returns-5 c =
 pub write-spec : {M : Type 1} → statement M
 write-spec =
     tie.close
-    (tie.spec
-    is-sound-requires
-    refused-requires
-    returns
-    read-from-requires
-    slice-aggregate-spell
-    spell-requires
-    refused-requires-2
-    returns-2
-    is-accepted-requires
-    refused-requires-3
-    returns-3
-    bytes-for-requires
-    refused-requires-4
-    returns-4
-    slice-aggregate-copy-out
-    copy-out-requires
-    carried-requires
-    same-length
-    returns-5)
+    (tie.spec (λ c κs. search needs) (λ c κs. search needs) returns (λ c κs. search needs) (λ c. search needs)
+    (λ c κs. search needs) (λ c κs. search needs) returns-2 (λ c κs. search needs) (λ c κs. search needs)
+    returns-3 (λ c κs. search needs) (λ c κs. search needs) returns-4 (λ c. search needs) (λ c κs. search needs)
+    (λ c κs. search needs) (λ c. search needs) returns-5)

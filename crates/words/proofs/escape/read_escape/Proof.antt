@@ -10,21 +10,12 @@ use borrow.Author.Needs.{needs}
 use Rattle.words.proofs.escape.read_escape.Statement.{statement}
 use Rattle.words.proofs.escape.read_escape.Tie as tie
 
-read-ones-requires : tie.Need-read-ones-requires
-read-ones-requires c κs = search needs
-
-enum-known-f : tie.Need-enum-known-f
-enum-known-f c = search needs
-
 add-size : tie.Need-add-size
 add-size c =
     let x = c .before .before .before .before .before .args in
     let few = ones-few (x .s .now) (x .at) (x .end) _ _
     (answered (c .before .before .before .read-ones .ensures) (c .before .f .given .1)) in
     search needs
-
-cast-read-field : tie.Need-cast-read-field
-cast-read-field c = search needs
 
 read-field-requires : tie.Need-read-field-requires
 read-field-requires c κs =
@@ -33,9 +24,6 @@ read-field-requires c κs =
     let few = ones-few (x .s .now) (x .at) (x .end) _ _
     (answered (c .before .before .before .read-ones .ensures) (c .before .f .given .1)) in
     (a .pre, omega arith)
-
-enum-known-g : tie.Need-enum-known-g
-enum-known-g c = search needs
 
 shl-t16 : tie.Need-shl-t16
 shl-t16 c =
@@ -53,12 +41,6 @@ add-t17 c =
     let below = field-below (n + 4) (x .s .now) _ (x .end) _ _
     (answered (c .before .before .before .read-field .ensures) (c .before .g .given .1)) in
     rw (one-shl 32 (n + 4) (omega arith)) (omega (arith, pow-mono {i = n + 4} {j = 12} (omega arith)))
-
-enum-known-g-2 : tie.Need-enum-known-g-2
-enum-known-g-2 c = search needs
-
-enum-known-f-2 : tie.Need-enum-known-f-2
-enum-known-f-2 c = search needs
 
 returns : tie.Need-returns
 returns c =
@@ -86,17 +68,5 @@ returns-3 c =
 pub read-escape-spec : {M : Type 1} → statement M
 read-escape-spec =
     tie.close
-    (tie.spec
-    read-ones-requires
-    enum-known-f
-    add-size
-    cast-read-field
-    read-field-requires
-    enum-known-g
-    shl-t16
-    add-t17
-    enum-known-g-2
-    enum-known-f-2
-    returns
-    returns-2
-    returns-3)
+    (tie.spec (λ c κs. search needs) (λ c. search needs) add-size (λ c. search needs) read-field-requires
+    (λ c. search needs) shl-t16 add-t17 (λ c. search needs) (λ c. search needs) returns returns-2 returns-3)

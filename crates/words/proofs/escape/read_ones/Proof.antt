@@ -18,12 +18,6 @@ abbrev μ-loop : tie.MeasureT-loop
 loop-holds : tie.Need-loop-holds Inv-loop μ-loop
 loop-holds c = (omega arith, refl)
 
-read-field-requires : tie.Need-read-field-requires Inv-loop μ-loop
-read-field-requires c κs = search needs
-
-enum-known-f : tie.Need-enum-known-f Inv-loop μ-loop
-enum-known-f c = search needs
-
 enum-told : tie.Need-enum-told Inv-loop μ-loop
 enum-told c = search needs
 
@@ -46,12 +40,6 @@ returns-2 c =
     let e = answered (f .before .before .read-field .ensures) (f .f .given .1) in
     sym (l .inv .1 ∙ ones-last (l .n) (x .s .now) (l .place) (x .end) _ _ (f .before .before .before .loop-test .taken) e (c .if1 .taken))
 
-add-n : tie.Need-add-n Inv-loop μ-loop
-add-n c = search needs
-
-loop-less : tie.Need-loop-less Inv-loop μ-loop
-loop-less c = search needs
-
 loop-again : tie.Need-loop-again Inv-loop μ-loop
 loop-again c =
     let f = c .before .before in
@@ -72,16 +60,5 @@ returns-3 c =
 pub read-ones-spec : {M : Type 1} → statement M
 read-ones-spec =
     tie.close
-    (tie.spec
-    Inv-loop
-    μ-loop
-    loop-holds
-    read-field-requires
-    enum-known-f
-    enum-told
-    returns
-    returns-2
-    add-n
-    loop-less
-    loop-again
-    returns-3)
+    (tie.spec Inv-loop μ-loop loop-holds (λ c κs. search needs) (λ c. search needs) enum-told returns returns-2
+    (λ c. search needs) (λ c. search needs) loop-again returns-3)
