@@ -1,3 +1,4 @@
+-- A grouping bit of 1 makes the group at hand longer by a window; the first 0, or the last window, ends it.
 use Prim.Native.Nat.{_+_, _-_, _≤_}
 use mathlib.Core.Path.{_≡_, _∙_}
 use native.Mathlib.Omega.{arith}
@@ -50,7 +51,8 @@ loop-again c =
     let x = c .before .before .before .args in
     let q : 7 - (x .from + l .n) ≡ 8 - (x .from + l .n) - 1 = omega arith in
     let r : 8 - (x .from + l .n) - 1 ≡ 8 - (x .from + (l .n + 1)) = omega arith in
-    (omega arith, omega arith, rw (← r) (l .inv .2 ∙ group-more (8 - (x .from + l .n)) (x .grouping) (l .n) (omega arith) (rw q at (c .if1 .left))))
+    let more = group-more (8 - (x .from + l .n)) (x .grouping) (l .n) (omega arith) (rw q at (c .if1 .left)) in
+    (omega arith, omega arith, rw (← r) (l .inv .2 ∙ more))
 
 returns-2 : tie.Need-returns-2 Inv-loop μ-loop
 returns-2 c =
@@ -61,17 +63,5 @@ returns-2 c =
 pub group-length-spec : {M : Type 1} → statement M
 group-length-spec =
     tie.close
-    (tie.spec
-    Inv-loop
-    μ-loop
-    loop-holds
-    add-loop
-    add-if1
-    sub-if1
-    cast-if1
-    shr-if1
-    returns
-    add-n
-    loop-less
-    loop-again
+    (tie.spec Inv-loop μ-loop loop-holds add-loop add-if1 sub-if1 cast-if1 shr-if1 returns add-n loop-less loop-again
     returns-2)

@@ -1,3 +1,4 @@
+-- Each turn puts the next value on the next line.
 use Prim.Native.Nat.{_-_, _≤_}
 use mathlib.Core.Path.{_≡_, refl}
 use native.Mathlib.Omega.{arith}
@@ -55,16 +56,5 @@ returns c =
 pub put-values-spec : {M : Type 1} → statement M
 put-values-spec =
     tie.close
-    (tie.spec
-    Inv-loop
-    μ-loop
-    loop-holds
-    mul-lines
-    element-copy-out-lines
-    add-t11
-    mul-t12
-    element-set-from-lines
-    add-i
-    loop-less
-    loop-again
-    returns)
+    (tie.spec Inv-loop μ-loop loop-holds mul-lines element-copy-out-lines add-t11 mul-t12 element-set-from-lines add-i
+    loop-less loop-again returns)

@@ -1,3 +1,4 @@
+-- A magnitude of at most 8191 fits with either sign.
 use Prim.Native.Nat.{_<_, _^_}
 use mathlib.Core.Path.{_∙_}
 use native.Mathlib.Omega.{arith}
