@@ -1,3 +1,4 @@
+pub mod ToldLaws
 pub mod WindowLaws
 pub mod SectionLaws
 pub mod FactorLaws

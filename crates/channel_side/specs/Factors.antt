@@ -8,7 +8,7 @@ use Rattle.bits.specs.Reader.{Reader, give, pick, expecting, _>>=_}
 use Rattle.bits.specs.Loop.{counted}
 use Rattle.tables.specs.Tables.{wordOf}
 use Rattle.tables.specs.Names.{scaleFactor}
-use Rattle.channel_side.specs.Window.{Window, groups}
+use Rattle.channel_side.specs.Window.{Window, maxSfb, groups}
 
 -- the last scale factor, and all so far
 pub record Factors : Type 0 where
@@ -33,4 +33,4 @@ firstFactors n gain books values = do
 
 -- the scale factors of all groups, starting at global_gain; 0 where unused
 unfoldable pub scaleFactors : ℕ → Window → List ℕ → Reader (List ℕ)
-scaleFactors gain w books = firstFactors (length (groups w) * w .maxSfb) gain books (replicate 120 0)
+scaleFactors gain w books = firstFactors (length (groups w) * maxSfb w) gain books (replicate 120 0)

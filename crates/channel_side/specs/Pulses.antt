@@ -77,7 +77,8 @@ changed after line place lines at = pick (leb (natAbs after) 8191) (got (set lin
 -- the k-th pulse is applied; nothing is read
 unfoldable pub applyPulse : Pulses → ℕ → List ℤ → Reader (List ℤ)
 applyPulse x k lines s at end =
-    changed (pulsed (getD lines (getD (x .lines) k 0) (pos 0)) (getD (x .amplitudes) k 0)) (getD (x .lines) k 0) (getD (x .places) k 0) lines at
+    changed (pulsed (getD lines (getD (x .lines) k 0) (pos 0)) (getD (x .amplitudes) k 0)) (getD (x .lines) k 0) (getD (x .places) k 0)
+    lines at
 
 -- the pulses are applied in order, each on what the one before left
 unfoldable pub applyPulses : Pulses → List ℤ → Reader (List ℤ)

@@ -1,3 +1,4 @@
+-- A line and an amplitude in 32 bits: nothing is lost.
 use native.Mathlib.Omega.{arith}
 use mir.Syntax.{w16}
 use mir.ValLaws.{toZ-ofZ}
@@ -42,12 +43,4 @@ returns-2 c =
 pub pulsed-line-spec : {M : Type 1} → statement M
 pulsed-line-spec =
     tie.close
-    (tie.spec
-    cast-result
-    cast-result-2
-    add-result
-    returns
-    cast-result-3
-    cast-result-4
-    sub-result
-    returns-2)
+    (tie.spec cast-result cast-result-2 add-result returns cast-result-3 cast-result-4 sub-result returns-2)

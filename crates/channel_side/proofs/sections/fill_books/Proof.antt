@@ -1,3 +1,4 @@
+-- Each turn puts the book at the next place.
 use Prim.Native.Nat.{_+_, _-_, _≤_}
 use mathlib.Core.Path.{_≡_, sym, _∙_}
 use native.Mathlib.Omega.{arith}
@@ -48,13 +49,4 @@ returns c =
 pub fill-books-spec : {M : Type 1} → statement M
 fill-books-spec =
     tie.close
-    (tie.spec
-    Inv-loop
-    μ-loop
-    loop-holds
-    add-books
-    element-write-books
-    add-k
-    loop-less
-    loop-again
-    returns)
+    (tie.spec Inv-loop μ-loop loop-holds add-books element-write-books add-k loop-less loop-again returns)

@@ -1,3 +1,4 @@
+-- The seven bits, or the flag, by the windows.
 use Rattle.channel_side.specs.Window.{groupingOf}
 use borrow.Author.Needs.{needs}
 use Rattle.channel_side.proofs.window.read_grouping.Statement.{statement}

@@ -1,0 +1,36 @@
+-- The reserved bit, then the sequence: the first refusal stands.
+use mathlib.Core.Path.{_∙_}
+use Rattle.bits.proofs.Taken.{answered}
+use Rattle.channel_side.specs.Window.{windowSequence}
+use borrow.Author.Needs.{needs}
+use Rattle.channel_side.proofs.window.read_sequence.Statement.{statement}
+use Rattle.channel_side.proofs.window.read_sequence.Tie as tie
+
+read-unset-bit-requires : tie.Need-read-unset-bit-requires
+read-unset-bit-requires c κs = search needs
+
+enum-known-reserved-bit : tie.Need-enum-known-reserved-bit
+enum-known-reserved-bit c = search needs
+
+enum-told : tie.Need-enum-told
+enum-told c = search needs
+
+returns : tie.Need-returns
+unfolding windowSequence
+returns c =
+    let told = c .enum-told .given .1 in
+    rw (told, answered (c .before .before .read-unset-bit .ensures) told)
+
+read-field-requires : tie.Need-read-field-requires
+read-field-requires c κs = search needs
+
+returns-2 : tie.Need-returns-2
+unfolding windowSequence
+returns-2 c =
+    let at-reserved = c .before .before .before .before in
+    c .read-field .ensures ∙ rw (answered (at-reserved .read-unset-bit .ensures) (c .before .before .reserved-bit .given .1))
+
+pub read-sequence-spec : {M : Type 1} → statement M
+read-sequence-spec =
+    tie.close
+    (tie.spec read-unset-bit-requires enum-known-reserved-bit enum-told returns read-field-requires returns-2)
