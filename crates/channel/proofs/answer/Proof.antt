@@ -1,3 +1,4 @@
+-- The groups are those of the head's window.
 use borrow.Author.Needs.{needs}
 use Rattle.channel.proofs.answer.Statement.{statement}
 use Rattle.channel.proofs.answer.Tie as tie

@@ -63,16 +63,5 @@ returns c =
 pub copy-lines-spec : {M : Type 1} → statement M
 copy-lines-spec =
     tie.close
-    (tie.spec
-    Inv-loop
-    μ-loop
-    loop-holds
-    mul-out
-    array-copy-out-out
-    mul-t10
-    slice-set-from-out
-    add-i
-    loop-less
-    loop-again
-    same-length
-    returns)
+    (tie.spec Inv-loop μ-loop loop-holds mul-out array-copy-out-out mul-t10 slice-set-from-out add-i loop-less
+    loop-again same-length returns)

@@ -1,3 +1,4 @@
+-- The part of the edges is the bands of the index and the windows.
 use mathlib.Core.Path.{_≡_, _∙_, ap}
 use lib.ListN.{length}
 use Rattle.channel.proofs.StreamLaws.{edges-count}
@@ -25,8 +26,9 @@ part-read-pulsed-end c =
 
 read-pulsed-requires : tie.Need-read-pulsed-requires
 read-pulsed-requires c κs =
-    let a = c .before .before .before .before .before .before .before .before in
-    (a .pre .0, a .pre .1, rw (a .pre .2) (c .before .before .part-of .ensures .0), a .pre .3, a .pre .4)
+    let part = c .before .before in
+    let a = part .before .before .before .before .before .before in
+    (a .pre .0, a .pre .1, rw (a .pre .2) (part .part-of .ensures .0), a .pre .3, a .pre .4)
 
 returns : tie.Need-returns
 returns c = search needs
@@ -34,11 +36,5 @@ returns c = search needs
 pub read-coded-spec : {M : Type 1} → statement M
 read-coded-spec =
     tie.close
-    (tie.spec
-    part-of-requires
-    mul-read-pulsed
-    sub-read-pulsed
-    part-read-pulsed-start
-    part-read-pulsed-end
-    read-pulsed-requires
-    returns)
+    (tie.spec part-of-requires mul-read-pulsed sub-read-pulsed part-read-pulsed-start part-read-pulsed-end
+    read-pulsed-requires returns)
