@@ -1,3 +1,4 @@
+pub mod MostLaws
 pub mod ToldLaws
 pub mod WindowLaws
 pub mod SectionLaws
@@ -5,3 +6,4 @@ pub mod FactorLaws
 pub mod PulseLaws
 pub mod LineLaws
 pub mod SideLawful
+pub mod KnownBooks

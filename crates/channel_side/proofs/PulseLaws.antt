@@ -2,7 +2,7 @@
 -- Assumes nothing.
 use Prim.Native.Nat.{ℕ, zero, suc, _+_, _-_, _<_, _≤_}
 use mathlib.Core.Path.{_≡_, sym, _∙_, ap}
-use mathlib.Core.List.{List, [], _∷_}
+use mathlib.Core.List.{List}
 use mathlib.Core.Bool.{Bool, true, false}
 use native.Mathlib.Omega.{arith}
 use lib.Dec.{ltb}
@@ -18,6 +18,7 @@ use Rattle.channel_lines.specs.Bands.{bands, bandCount, firstLine}
 use Rattle.channel_lines.specs.InnerBands.{windowLines}
 use Rattle.channel_lines.proofs.BandLaws.{bands-rising, bands-some}
 use Rattle.bits.proofs.LoopLaws.{counted-start, counted-more, counted-stop, counted-done}
+use Rattle.channel_side.proofs.MostLaws.{set-most}
 use Rattle.channel_side.specs.InnerAnswers.{laid, counted, pulseAnswer, Blank, Low}
 use Rattle.channel_side.specs.Pulses.{Laid, Pulses, pulse, eachPulse, startBand, pulseData, noPulses, pulses}
 
@@ -25,15 +26,8 @@ use Rattle.channel_side.specs.Pulses.{Laid, Pulses, pulse, eachPulse, st
 pub pulse-is : (ls am ps : List ℕ) {f v : Field} {x : Answer Laid} → pulseAnswer f ls am ps ≡ x → f ≡ v → x ≡ pulseAnswer v ls am ps
 pulse-is ls am ps e q = sym e ∙ ap (λ (y : Field). pulseAnswer y ls am ps) q
 
-set-low : (xs : List ℕ) (k v : ℕ) → v ≤ 1023 → ((j : ℕ) → getD xs j 0 ≤ 1023) → (j : ℕ) → getD (set xs k v) j 0 ≤ 1023
-set-low [] k v h l j = l j
-set-low (x ∷ xs) zero v h l zero = h
-set-low (x ∷ xs) zero v h l (suc j) = l (suc j)
-set-low (x ∷ xs) (suc k) v h l zero = l zero
-set-low (x ∷ xs) (suc k) v h l (suc j) = set-low xs k v h (λ i. l (suc i)) j
-
 pub low-set : (xs : List ℕ) (k v : ℕ) → v ≤ 1023 → Low xs → Low (set xs k v)
-low-set xs k v h l = record { at = set-low xs k v h (l .at) }
+low-set xs k v h l = record { at = set-most 1023 xs k v h (l .at) }
 
 low-zeros : Low (replicate 4 0)
 low-zeros = record { at = zeros }

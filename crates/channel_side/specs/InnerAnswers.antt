@@ -22,10 +22,14 @@ noWindow = record { sequence = 0; shape = 0; «max_sfb» = 0; grouping = 0 }
 abbrev pub Bounded : ℕ → Window → Type 0
 Bounded index w = maxSfb w ≤ bandCount index (isShort w)
 
+-- what is known of a number that was read
+abbrev pub Known : (ℕ → Type 0) → Field → Type 0
+Known P (Got v next) = P v
+Known P (Refused n place) = Unit
+
 -- a section has a band at least, and no more than there is room for
 abbrev pub Fits : ℕ → Field → Type 0
-Fits room (Got bands next) = (1 ≤ bands) × (bands ≤ room)
-Fits room (Refused n place) = Unit
+Fits room = Known (λ bands. (1 ≤ bands) × (bands ≤ room))
 
 -- the bands of a group that are covered, with what the lent books hold afterwards
 abbrev pub coveredAnswer : Field → List ℕ → Answer Covered
@@ -34,8 +38,7 @@ coveredAnswer (Refused n place) books = refused n place
 
 -- a section covers a band at least, and none past max_sfb
 abbrev pub Further : ℕ → ℕ → Field → Type 0
-Further count maxSfb (Got covered next) = (count < covered) × (covered ≤ maxSfb)
-Further count maxSfb (Refused n place) = Unit
+Further count maxSfb = Known (λ covered. (count < covered) × (covered ≤ maxSfb))
 
 -- the last scale factor, with what the lent array holds afterwards
 abbrev pub factorAnswer : Field → List ℕ → Answer Factors
@@ -44,8 +47,7 @@ factorAnswer (Refused n place) values = refused n place
 
 -- a scale factor is at most 255
 abbrev pub Small : Field → Type 0
-Small (Got last next) = last ≤ 255
-Small (Refused n place) = Unit
+Small = Known (λ last. last ≤ 255)
 
 -- pulses in the lent arrays: after a last line, and so many
 abbrev pub laid : ℕ → List ℕ → List ℕ → List ℕ → Laid
@@ -74,13 +76,11 @@ pub record Low (lines : List ℕ) : Type 0 where
 
 -- a pulse's line is at most 1023
 abbrev pub Reached : Field → Type 0
-Reached (Got line next) = line ≤ 1023
-Reached (Refused n place) = Unit
+Reached = Known (λ line. line ≤ 1023)
 
 -- there are four pulses at most
 abbrev pub Few : Field → Type 0
-Few (Got count next) = count ≤ 4
-Few (Refused n place) = Unit
+Few = Known (λ count. count ≤ 4)
 
 -- what a reader that reads nothing answers, whatever the bytes and the end are
 abbrev pub Always : {A : Type 0} → Ended → A → Reader A → ℕ → Type 0
