@@ -20,12 +20,6 @@ well : (c : tie.Else1)
     × (120 ≤ length (entry c .args .books .now))
 well c = refusal-well _ _ _ _ _ _ _ (sym (c .before .channel-call-refusal .ensures) ∙ c .if1 .left)
 
-channel-call-refusal-requires : tie.Need-channel-call-refusal-requires
-channel-call-refusal-requires c κs = search needs
-
-refused-requires : tie.Need-refused-requires
-refused-requires c κs = search needs
-
 returns : tie.Need-returns
 returns c =
     rw (channel-not _ _ _ _ _ _ _ _ (c .before .before .channel-call-refusal .ensures) (c .before .if1 .taken))
@@ -47,15 +41,6 @@ read-slice-requires c κs =
     let x = entry judged .args in
     (range-short (x .buf .now) (x .start) (x .end) (omega arith), w .2, w .3, w .4)
 
-same-length : tie.Need-same-length
-same-length c = search needs
-
-same-length-2 : tie.Need-same-length-2
-same-length-2 c = search needs
-
-same-length-3 : tie.Need-same-length-3
-same-length-3 c = search needs
-
 returns-2 : tie.Need-returns-2
 returns-2 c =
     let read = c .before .before .before .before .before in
@@ -66,5 +51,5 @@ returns-2 c =
 pub read-channel-spec : {M : Type 1} → statement M
 read-channel-spec =
     tie.close
-    (tie.spec channel-call-refusal-requires refused-requires returns sub-read-slice part-read-slice-start
-    part-read-slice-end read-slice-requires same-length same-length-2 same-length-3 returns-2)
+    (tie.spec (λ c κs. search needs) (λ c κs. search needs) returns sub-read-slice part-read-slice-start
+    part-read-slice-end read-slice-requires (λ c. search needs) (λ c. search needs) (λ c. search needs) returns-2)

@@ -4,39 +4,6 @@ use borrow.Author.Needs.{needs}
 use Rattle.channel.proofs.read_slice.Statement.{statement}
 use Rattle.channel.proofs.read_slice.Tie as tie
 
-read-payload-requires : tie.Need-read-payload-requires
-read-payload-requires c κs = search needs
-
-enum-known-ended : tie.Need-enum-known-ended
-enum-known-ended c = search needs
-
-copy-lines-requires : tie.Need-copy-lines-requires
-copy-lines-requires c κs = search needs
-
-copy-bands-requires : tie.Need-copy-bands-requires
-copy-bands-requires c κs = search needs
-
-copy-bands-requires-2 : tie.Need-copy-bands-requires-2
-copy-bands-requires-2 c κs = search needs
-
-answer-requires : tie.Need-answer-requires
-answer-requires c κs = search needs
-
-enum-known-ended-2 : tie.Need-enum-known-ended-2
-enum-known-ended-2 c = search needs
-
-refused-requires : tie.Need-refused-requires
-refused-requires c κs = search needs
-
-same-length : tie.Need-same-length
-same-length c = search needs
-
-same-length-2 : tie.Need-same-length-2
-same-length-2 c = search needs
-
-same-length-3 : tie.Need-same-length-3
-same-length-3 c = search needs
-
 returns : tie.Need-returns
 returns c =
     let books = c .before .before .before in
@@ -55,5 +22,6 @@ returns-2 c =
 pub read-slice-spec : {M : Type 1} → statement M
 read-slice-spec =
     tie.close
-    (tie.spec read-payload-requires enum-known-ended copy-lines-requires copy-bands-requires copy-bands-requires-2
-    answer-requires enum-known-ended-2 refused-requires same-length same-length-2 same-length-3 returns returns-2)
+    (tie.spec (λ c κs. search needs) (λ c. search needs) (λ c κs. search needs) (λ c κs. search needs)
+    (λ c κs. search needs) (λ c κs. search needs) (λ c. search needs) (λ c κs. search needs) (λ c. search needs)
+    (λ c. search needs) (λ c. search needs) returns returns-2)

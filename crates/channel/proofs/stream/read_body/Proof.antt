@@ -11,19 +11,10 @@ use Rattle.channel.proofs.stream.read_body.Tie as tie
 abbrev entry : tie.After-read-books → tie.Start
 entry c = c .before .before .before .before .before .before .before .before .before
 
-cast-max-sfb : tie.Need-cast-max-sfb
-cast-max-sfb c = search needs
-
 read-books-requires : tie.Need-read-books-requires
 read-books-requires c κs =
     let a = c .before .before .before .before .before .before .before .before in
     (a .pre .0, le-trans (a .pre .3) (bands-most _ _))
-
-enum-known-sections : tie.Need-enum-known-sections
-enum-known-sections c = search needs
-
-enum-told : tie.Need-enum-told
-enum-told c = search needs
 
 returns : tie.Need-returns
 unfolding streamAfter
@@ -37,12 +28,6 @@ read-scale-factors-requires : tie.Need-read-scale-factors-requires
 read-scale-factors-requires c κs =
     let a = entry (c .before .before .before .before .before) in
     (a .pre .0, a .pre .1, a .pre .3, a .pre .5)
-
-enum-known-scale : tie.Need-enum-known-scale
-enum-known-scale c = search needs
-
-enum-told-2 : tie.Need-enum-told-2
-enum-told-2 c = search needs
 
 returns-2 : tie.Need-returns-2
 unfolding streamAfter
@@ -74,5 +59,5 @@ returns-3 c =
 pub read-body-spec : {M : Type 1} → statement M
 read-body-spec =
     tie.close
-    (tie.spec cast-max-sfb read-books-requires enum-known-sections enum-told returns read-scale-factors-requires
-    enum-known-scale enum-told-2 returns-2 read-coded-requires returns-3)
+    (tie.spec (λ c. search needs) read-books-requires (λ c. search needs) (λ c. search needs) returns
+    read-scale-factors-requires (λ c. search needs) (λ c. search needs) returns-2 read-coded-requires returns-3)

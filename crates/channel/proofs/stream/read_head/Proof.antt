@@ -8,21 +8,6 @@ use borrow.Author.Needs.{needs}
 use Rattle.channel.proofs.stream.read_head.Statement.{statement}
 use Rattle.channel.proofs.stream.read_head.Tie as tie
 
-read-field-requires : tie.Need-read-field-requires
-read-field-requires c κs = search needs
-
-enum-known-gain-field : tie.Need-enum-known-gain-field
-enum-known-gain-field c = search needs
-
-enum-told : tie.Need-enum-told
-enum-told c = search needs
-
-passed-on-requires : tie.Need-passed-on-requires
-passed-on-requires c κs = search needs
-
-refused-head-requires : tie.Need-refused-head-requires
-refused-head-requires c κs = search needs
-
 returns : tie.Need-returns
 unfolding headOf
 returns c =
@@ -32,9 +17,6 @@ returns c =
       passed _ (none .0 ∙ c .before .passed-on .ensures) told ∙ rw (answered (at-gain .read-field .ensures) told),
       rw (none .1) (omega arith),
     )
-
-read-window-requires : tie.Need-read-window-requires
-read-window-requires c κs = search needs
 
 cast-t13 : tie.Need-cast-t13
 cast-t13 c =
@@ -54,5 +36,5 @@ returns-2 c =
 pub read-head-spec : {M : Type 1} → statement M
 read-head-spec =
     tie.close
-    (tie.spec read-field-requires enum-known-gain-field enum-told passed-on-requires refused-head-requires returns
-    read-window-requires cast-t13 returns-2)
+    (tie.spec (λ c κs. search needs) (λ c. search needs) (λ c. search needs) (λ c κs. search needs)
+    (λ c κs. search needs) returns (λ c κs. search needs) cast-t13 returns-2)

@@ -9,36 +9,6 @@ use borrow.Author.Needs.{needs}
 use Rattle.channel.proofs.stream.read_payload.Statement.{statement}
 use Rattle.channel.proofs.stream.read_payload.Tie as tie
 
-codes-requires : tie.Need-codes-requires
-codes-requires c κs = search needs
-
-lens-requires : tie.Need-lens-requires
-lens-requires c κs = search needs
-
-edges-requires : tie.Need-edges-requires
-edges-requires c κs = search needs
-
-mul-end : tie.Need-mul-end
-mul-end c = search needs
-
-slice-aggregate-read-stream : tie.Need-slice-aggregate-read-stream
-slice-aggregate-read-stream c = search needs
-
-slice-aggregate-read-stream-2 : tie.Need-slice-aggregate-read-stream-2
-slice-aggregate-read-stream-2 c = search needs
-
-slice-aggregate-read-stream-3 : tie.Need-slice-aggregate-read-stream-3
-slice-aggregate-read-stream-3 c = search needs
-
-read-stream-requires : tie.Need-read-stream-requires
-read-stream-requires c κs = search needs
-
-enum-known-stream-ended : tie.Need-enum-known-stream-ended
-enum-known-stream-ended c = search needs
-
-enum-told : tie.Need-enum-told
-enum-told c = search needs
-
 returns : tie.Need-returns
 returns c =
     let told = c .enum-told .given .1 in
@@ -50,9 +20,6 @@ sub-if1 c =
     let x = at-stream .before .before .before .before .before .before .before .before .before .before .before .args in
     let e = rw (c .before .stream-ended .given .1) at (at-stream .read-stream .ensures) in
     stream-lawful (x .index) .within (x .s .now) 0 (8 * length (x .s .now)) _ _ (omega arith) (e .2) .1
-
-refused-head-requires : tie.Need-refused-head-requires
-refused-head-requires c κs = search needs
 
 returns-2 : tie.Need-returns-2
 returns-2 c =
@@ -69,6 +36,6 @@ returns-3 c =
 pub read-payload-spec : {M : Type 1} → statement M
 read-payload-spec =
     tie.close
-    (tie.spec codes-requires lens-requires edges-requires mul-end slice-aggregate-read-stream
-    slice-aggregate-read-stream-2 slice-aggregate-read-stream-3 read-stream-requires enum-known-stream-ended enum-told
-    returns sub-if1 refused-head-requires returns-2 returns-3)
+    (tie.spec (λ c κs. search needs) (λ c κs. search needs) (λ c κs. search needs) (λ c. search needs)
+    (λ c. search needs) (λ c. search needs) (λ c. search needs) (λ c κs. search needs) (λ c. search needs)
+    (λ c. search needs) returns sub-if1 (λ c κs. search needs) returns-2 returns-3)

@@ -8,33 +8,12 @@ use borrow.Author.Needs.{needs}
 use Rattle.channel.proofs.stream.read_pulsed.Statement.{statement}
 use Rattle.channel.proofs.stream.read_pulsed.Tie as tie
 
-read-pulses-requires : tie.Need-read-pulses-requires
-read-pulses-requires c κs = search needs
-
-enum-known-pulses-field : tie.Need-enum-known-pulses-field
-enum-known-pulses-field c = search needs
-
-enum-told : tie.Need-enum-told
-enum-told c = search needs
-
-passed-on-requires : tie.Need-passed-on-requires
-passed-on-requires c κs = search needs
-
 returns : tie.Need-returns
 unfolding codedOf
 returns c =
     let told = c .before .enum-told .given .1 in
     let e = pulses-is _ _ _ (c .before .before .before .read-pulses .ensures .0) told in
     rw (c .passed-on .ensures ∙ ap passedOn told) (rw e)
-
-read-unpulsed-requires : tie.Need-read-unpulsed-requires
-read-unpulsed-requires c κs = search needs
-
-enum-known-read : tie.Need-enum-known-read
-enum-known-read c = search needs
-
-enum-told-2 : tie.Need-enum-told-2
-enum-told-2 c = search needs
 
 returns-2 : tie.Need-returns-2
 unfolding codedOf
@@ -44,9 +23,6 @@ returns-2 c =
     let pulses = at-lines .before .before .before in
     let e = pulses-is _ _ _ (pulses .before .before .read-pulses .ensures .0) (pulses .pulses-field .given .1) in
     rw told (rw (e, ended-is _ (at-lines .read-unpulsed .ensures) told))
-
-cast-apply-pulses : tie.Need-cast-apply-pulses
-cast-apply-pulses c = search needs
 
 apply-pulses-requires : tie.Need-apply-pulses-requires
 apply-pulses-requires c κs =
@@ -67,5 +43,6 @@ returns-3 c =
 pub read-pulsed-spec : {M : Type 1} → statement M
 read-pulsed-spec =
     tie.close
-    (tie.spec read-pulses-requires enum-known-pulses-field enum-told passed-on-requires returns read-unpulsed-requires
-    enum-known-read enum-told-2 returns-2 cast-apply-pulses apply-pulses-requires returns-3)
+    (tie.spec (λ c κs. search needs) (λ c. search needs) (λ c. search needs) (λ c κs. search needs) returns
+    (λ c κs. search needs) (λ c. search needs) (λ c. search needs) returns-2 (λ c. search needs) apply-pulses-requires
+    returns-3)

@@ -20,17 +20,8 @@ room c =
     let g = c .groups-of .ensures in
     groups-room (isShort w) (w .grouping) _ _ (g .0) (g .3) (le-trans (entry c .pre .2) (bands-most _ _))
 
-groups-of-requires : tie.Need-groups-of-requires
-groups-of-requires c κs = search needs
-
-cast-n : tie.Need-cast-n
-cast-n c = search needs
-
 mul-n : tie.Need-mul-n
 mul-n c = omega (arith, room (c .before .before))
-
-cast-read-factors : tie.Need-cast-read-factors
-cast-read-factors c = search needs
 
 read-factors-requires : tie.Need-read-factors-requires
 read-factors-requires c κs =
@@ -48,4 +39,4 @@ returns c =
 pub read-scale-factors-spec : {M : Type 1} → statement M
 read-scale-factors-spec =
     tie.close
-    (tie.spec groups-of-requires cast-n mul-n cast-read-factors read-factors-requires returns)
+    (tie.spec (λ c κs. search needs) (λ c. search needs) mul-n (λ c. search needs) read-factors-requires returns)

@@ -6,15 +6,6 @@ use borrow.Author.Needs.{needs}
 use Rattle.channel.proofs.stream.read_stream.Statement.{statement}
 use Rattle.channel.proofs.stream.read_stream.Tie as tie
 
-read-head-requires : tie.Need-read-head-requires
-read-head-requires c κs = search needs
-
-enum-known-head-ended : tie.Need-enum-known-head-ended
-enum-known-head-ended c = search needs
-
-enum-told : tie.Need-enum-told
-enum-told c = search needs
-
 returns : tie.Need-returns
 unfolding stream
 returns c =
@@ -38,4 +29,4 @@ returns-2 c =
 pub read-stream-spec : {M : Type 1} → statement M
 read-stream-spec =
     tie.close
-    (tie.spec read-head-requires enum-known-head-ended enum-told returns read-body-requires returns-2)
+    (tie.spec (λ c κs. search needs) (λ c. search needs) (λ c. search needs) returns read-body-requires returns-2)

@@ -10,35 +10,11 @@ use borrow.Author.Needs.{needs}
 use Rattle.channel.proofs.stream.read_unpulsed.Statement.{statement}
 use Rattle.channel.proofs.stream.read_unpulsed.Tie as tie
 
-read-unset-bit-requires : tie.Need-read-unset-bit-requires
-read-unset-bit-requires c κs = search needs
-
-enum-known-tns-flag : tie.Need-enum-known-tns-flag
-enum-known-tns-flag c = search needs
-
-enum-told : tie.Need-enum-told
-enum-told c = search needs
-
-passed-on-requires : tie.Need-passed-on-requires
-passed-on-requires c κs = search needs
-
 returns : tie.Need-returns
 unfolding unpulsed
 returns c =
     let told = c .before .enum-told .given .1 in
     passed _ (c .passed-on .ensures) told ∙ rw (answered (c .before .before .before .read-unset-bit .ensures) told)
-
-read-unset-bit-requires-2 : tie.Need-read-unset-bit-requires-2
-read-unset-bit-requires-2 c κs = search needs
-
-enum-known-control-flag : tie.Need-enum-known-control-flag
-enum-known-control-flag c = search needs
-
-enum-told-2 : tie.Need-enum-told-2
-enum-told-2 c = search needs
-
-passed-on-requires-2 : tie.Need-passed-on-requires-2
-passed-on-requires-2 c κs = search needs
 
 returns-2 : tie.Need-returns-2
 unfolding unpulsed
@@ -48,9 +24,6 @@ returns-2 c =
     let tns = at-control .before .before in
     let e = answered (tns .before .before .read-unset-bit .ensures) (tns .tns-flag .given .1) in
     passed _ (c .passed-on2 .ensures) told ∙ rw (e, answered (at-control .read-unset-bit2 .ensures) told)
-
-cast-max-sfb : tie.Need-cast-max-sfb
-cast-max-sfb c = search needs
 
 read-lines-requires : tie.Need-read-lines-requires
 read-lines-requires c κs =
@@ -74,6 +47,6 @@ returns-3 c =
 pub read-unpulsed-spec : {M : Type 1} → statement M
 read-unpulsed-spec =
     tie.close
-    (tie.spec read-unset-bit-requires enum-known-tns-flag enum-told passed-on-requires returns
-    read-unset-bit-requires-2 enum-known-control-flag enum-told-2 passed-on-requires-2 returns-2 cast-max-sfb
-    read-lines-requires returns-3)
+    (tie.spec (λ c κs. search needs) (λ c. search needs) (λ c. search needs) (λ c κs. search needs) returns
+    (λ c κs. search needs) (λ c. search needs) (λ c. search needs) (λ c κs. search needs) returns-2
+    (λ c. search needs) read-lines-requires returns-3)

@@ -4,11 +4,8 @@ use borrow.Author.Needs.{needs}
 use Rattle.channel.proofs.stream.refused_head.Statement.{statement}
 use Rattle.channel.proofs.stream.refused_head.Tie as tie
 
-no-window-requires : tie.Need-no-window-requires
-no-window-requires c κs = search needs
-
 returns : tie.Need-returns
 returns c = (refl, rw (c .no-window .ensures))
 
 pub refused-head-spec : {M : Type 1} → statement M
-refused-head-spec = tie.close (tie.spec no-window-requires returns)
+refused-head-spec = tie.close (tie.spec (λ c κs. search needs) returns)

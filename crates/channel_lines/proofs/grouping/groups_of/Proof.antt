@@ -20,9 +20,6 @@ Inv-loop short grouping windows₀ count₀ from₀ windows count from =
 abbrev μ-loop : tie.MeasureT-loop
 μ-loop short grouping windows₀ count₀ from₀ windows count from = 8 - from
 
-array-write-windows : tie.Need-array-write-windows Inv-loop μ-loop
-array-write-windows c = search needs
-
 returns : tie.Need-returns Inv-loop μ-loop
 returns c =
     let x = c .before .args in
@@ -32,17 +29,8 @@ returns c =
 loop-holds : tie.Need-loop-holds Inv-loop μ-loop
 loop-holds c = (omega arith, omega arith, omega arith, ([], found-none (groups-short _ _ (not-false _ (c .if1 .left)))))
 
-group-length-requires : tie.Need-group-length-requires Inv-loop μ-loop
-group-length-requires c κs = search needs
-
 cast-windows : tie.Need-cast-windows Inv-loop μ-loop
 cast-windows c = let g = c .group-length .ensures in omega arith
-
-array-write-windows-2 : tie.Need-array-write-windows-2 Inv-loop μ-loop
-array-write-windows-2 c = search needs
-
-add-count : tie.Need-add-count Inv-loop μ-loop
-add-count c = search needs
 
 add-from : tie.Need-add-from Inv-loop μ-loop
 add-from c = let g = c .group-length .ensures in omega arith
@@ -64,5 +52,5 @@ returns-2 c =
 pub groups-of-spec : {M : Type 1} → statement M
 groups-of-spec =
     tie.close
-    (tie.spec Inv-loop μ-loop array-write-windows returns loop-holds group-length-requires cast-windows
-    array-write-windows-2 add-count add-from loop-less loop-again returns-2)
+    (tie.spec Inv-loop μ-loop (λ c. search needs) returns loop-holds (λ c κs. search needs) cast-windows
+    (λ c. search needs) (λ c. search needs) add-from loop-less loop-again returns-2)

@@ -42,9 +42,6 @@ word-fits c =
     let s = spectral (c .before .before) in
     omega (arith, words-fit (x .width) (dim c) t (c .loop-test .taken), div-le-self (x .width) (dim c))
 
-book-of-requires : tie.Need-book-of-requires Inv-loop μ-loop
-book-of-requires c κs = search needs
-
 returns : tie.Need-returns Inv-loop μ-loop
 unfolding band
 returns c = rw (← (c .before .book-of .ensures), eq-eqb _ _ (c .if1 .taken))
@@ -60,12 +57,6 @@ read-tuple-requires : tie.Need-read-tuple-requires Inv-loop μ-loop
 read-tuple-requires c κs =
     let a = entry (c .before) in
     (a .pre .0, a .pre .1, spectral (c .before .before .before), refl)
-
-enum-known-read : tie.Need-enum-known-read Inv-loop μ-loop
-enum-known-read c = search needs
-
-enum-told : tie.Need-enum-told Inv-loop μ-loop
-enum-told c = search needs
 
 returns-2 : tie.Need-returns-2 Inv-loop μ-loop
 returns-2 c =
@@ -88,9 +79,6 @@ put-values-requires c κs = omega (arith, word-fits (c .before .before .before .
 add-t : tie.Need-add-t Inv-loop μ-loop
 add-t c = omega (arith, word-fits (c .before .before .before .before .before .before .before .before))
 
-loop-less : tie.Need-loop-less Inv-loop μ-loop
-loop-less c = search needs
-
 loop-again : tie.Need-loop-again Inv-loop μ-loop
 loop-again c =
     let read = c .before .before .before .before in
@@ -108,5 +96,6 @@ returns-3 c = sym (c .before .loop .inv .1 ∙ counted-done _ _ _ _ _ _ _ (c .lo
 pub read-band-spec : {M : Type 1} → statement M
 read-band-spec =
     tie.close
-    (tie.spec Inv-loop μ-loop book-of-requires returns div-words loop-holds read-tuple-requires enum-known-read
-    enum-told returns-2 mul-put-values add-put-values put-values-requires add-t loop-less loop-again returns-3)
+    (tie.spec Inv-loop μ-loop (λ c κs. search needs) returns div-words loop-holds read-tuple-requires
+    (λ c. search needs) (λ c. search needs) returns-2 mul-put-values add-put-values put-values-requires add-t
+    (λ c. search needs) loop-again returns-3)

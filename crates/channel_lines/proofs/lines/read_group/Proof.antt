@@ -27,24 +27,12 @@ read-group-band-requires c κs =
     let a = c .before .before .before .before .before .before .before in
     (a .pre .0, a .pre .1, a .pre .2, omega arith, omega arith, a .pre .5)
 
-enum-known-read : tie.Need-enum-known-read Inv-loop μ-loop
-enum-known-read c = search needs
-
-enum-told : tie.Need-enum-told Inv-loop μ-loop
-enum-told c = search needs
-
 returns : tie.Need-returns Inv-loop μ-loop
 returns c =
     let told = c .enum-told .given .1 in
     let at-band = c .before .before in
     let l = at-band .before .before .before .loop in
     rw told (sym (l .inv .1 ∙ counted-stop _ _ _ _ _ _ _ _ _ (omega arith) (ended-is _ (at-band .read-group-band .ensures) told)))
-
-add-b : tie.Need-add-b Inv-loop μ-loop
-add-b c = search needs
-
-loop-less : tie.Need-loop-less Inv-loop μ-loop
-loop-less c = search needs
 
 loop-again : tie.Need-loop-again Inv-loop μ-loop
 loop-again c =
@@ -59,5 +47,5 @@ returns-2 c = sym (c .before .loop .inv .1 ∙ counted-done _ _ _ _ _ _ _ (omega
 pub read-group-spec : {M : Type 1} → statement M
 read-group-spec =
     tie.close
-    (tie.spec Inv-loop μ-loop loop-holds read-group-band-requires enum-known-read enum-told returns add-b loop-less
-    loop-again returns-2)
+    (tie.spec Inv-loop μ-loop loop-holds read-group-band-requires (λ c. search needs) (λ c. search needs) returns
+    (λ c. search needs) (λ c. search needs) loop-again returns-2)

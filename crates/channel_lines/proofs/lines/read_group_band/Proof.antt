@@ -7,27 +7,6 @@ use borrow.Author.Needs.{needs}
 use Rattle.channel_lines.proofs.lines.read_group_band.Statement.{statement}
 use Rattle.channel_lines.proofs.lines.read_group_band.Tie as tie
 
-add-number : tie.Need-add-number
-add-number c = search needs
-
-element-copy-out-number : tie.Need-element-copy-out-number
-element-copy-out-number c = search needs
-
-mul-first : tie.Need-mul-first
-mul-first c = search needs
-
-shared-slice-read-first : tie.Need-shared-slice-read-first
-shared-slice-read-first c = search needs
-
-add-width : tie.Need-add-width
-add-width c = search needs
-
-mul-width : tie.Need-mul-width
-mul-width c = search needs
-
-shared-slice-read-width : tie.Need-shared-slice-read-width
-shared-slice-read-width c = search needs
-
 sub-width : tie.Need-sub-width
 sub-width c =
     let a = c .before .before .before .before .before .before .before .before in
@@ -46,5 +25,5 @@ returns c = rw add-one at (c .read-windows .ensures)
 pub read-group-band-spec : {M : Type 1} → statement M
 read-group-band-spec =
     tie.close
-    (tie.spec add-number element-copy-out-number mul-first shared-slice-read-first add-width mul-width
-    shared-slice-read-width sub-width read-windows-requires returns)
+    (tie.spec (λ c. search needs) (λ c. search needs) (λ c. search needs) (λ c. search needs) (λ c. search needs)
+    (λ c. search needs) (λ c. search needs) sub-width read-windows-requires returns)

@@ -31,9 +31,6 @@ entry c = c .before .before .before .before .before .before
 bounds : (c : tie.At-loop Inv-loop μ-loop) → (windowLines (entry c .args .short) ≡ 128) × (mostBands (entry c .args .short) ≡ 15)
 bounds c = of-short _ (not-false _ (c .before .if1 .left))
 
-group-at-requires : tie.Need-group-at-requires Inv-loop μ-loop
-group-at-requires c κs = search needs
-
 read-group-requires : tie.Need-read-group-requires Inv-loop μ-loop
 read-group-requires c κs =
     let a = c .before .before .before .before .before .before .before in
@@ -51,12 +48,6 @@ loop-holds c =
     let x = c .before .before .before .before .before .args in
     (omega arith, omega arith, rw (groups-short (x .short) (x .grouping) (not-false _ (c .if1 .left))))
 
-group-length-requires : tie.Need-group-length-requires Inv-loop μ-loop
-group-length-requires c κs = search needs
-
-group-at-requires-2 : tie.Need-group-at-requires-2 Inv-loop μ-loop
-group-at-requires-2 c κs = search needs
-
 read-group-requires-2 : tie.Need-read-group-requires-2 Inv-loop μ-loop
 read-group-requires-2 c κs =
     let n = c .before .before .group-length in
@@ -72,12 +63,6 @@ read-group-requires-2 c κs =
       omega arith,
       omega arith,
     )
-
-enum-known-read : tie.Need-enum-known-read Inv-loop μ-loop
-enum-known-read c = search needs
-
-enum-told : tie.Need-enum-told Inv-loop μ-loop
-enum-told c = search needs
 
 returns-2 : tie.Need-returns-2 Inv-loop μ-loop
 returns-2 c =
@@ -114,6 +99,6 @@ returns-3 c = sym (c .before .loop .inv .2 ∙ lines-done _ _ _ _ _ _ _ _ _ _ (c
 pub read-lines-spec : {M : Type 1} → statement M
 read-lines-spec =
     tie.close
-    (tie.spec Inv-loop μ-loop group-at-requires read-group-requires returns loop-holds group-length-requires
-    group-at-requires-2 read-group-requires-2 enum-known-read enum-told returns-2 add-base add-from loop-less
-    loop-again returns-3)
+    (tie.spec Inv-loop μ-loop (λ c κs. search needs) read-group-requires returns loop-holds (λ c κs. search needs)
+    (λ c κs. search needs) read-group-requires-2 (λ c. search needs) (λ c. search needs) returns-2 add-base add-from
+    loop-less loop-again returns-3)

@@ -24,24 +24,6 @@ abbrev μ-loop : tie.MeasureT-loop
 loop-holds : tie.Need-loop-holds Inv-loop μ-loop
 loop-holds c = (omega arith, omega arith, windows-start _ _ _ _ _ _ _ _ _)
 
-add-loop : tie.Need-add-loop Inv-loop μ-loop
-add-loop c = search needs
-
-mul-read-band : tie.Need-mul-read-band Inv-loop μ-loop
-mul-read-band c = search needs
-
-add-read-band : tie.Need-add-read-band Inv-loop μ-loop
-add-read-band c = search needs
-
-read-band-requires : tie.Need-read-band-requires Inv-loop μ-loop
-read-band-requires c κs = search needs
-
-enum-known-read : tie.Need-enum-known-read Inv-loop μ-loop
-enum-known-read c = search needs
-
-enum-told : tie.Need-enum-told Inv-loop μ-loop
-enum-told c = search needs
-
 returns : tie.Need-returns Inv-loop μ-loop
 returns c =
     let told = c .enum-told .given .1 in
@@ -50,12 +32,6 @@ returns c =
     let x = at-band .before .before .before .before .before .before .before .args in
     let e = ended-is _ (at-band .read-band .ensures) told in
     rw told (sym (l .inv .2 ∙ counted-stop (windowBand (x .number) (x .first) (x .width)) _ _ _ _ _ _ _ _ (omega arith) e))
-
-add-v : tie.Need-add-v Inv-loop μ-loop
-add-v c = search needs
-
-loop-less : tie.Need-loop-less Inv-loop μ-loop
-loop-less c = search needs
 
 loop-again : tie.Need-loop-again Inv-loop μ-loop
 loop-again c =
@@ -71,5 +47,6 @@ returns-2 c = sym (c .before .loop .inv .2 ∙ counted-done _ _ _ _ _ _ _ (omega
 pub read-windows-spec : {M : Type 1} → statement M
 read-windows-spec =
     tie.close
-    (tie.spec Inv-loop μ-loop loop-holds add-loop mul-read-band add-read-band read-band-requires enum-known-read
-    enum-told returns add-v loop-less loop-again returns-2)
+    (tie.spec Inv-loop μ-loop loop-holds (λ c. search needs) (λ c. search needs) (λ c. search needs)
+    (λ c κs. search needs) (λ c. search needs) (λ c. search needs) returns (λ c. search needs) (λ c. search needs)
+    loop-again returns-2)

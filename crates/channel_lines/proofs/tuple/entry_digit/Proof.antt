@@ -15,22 +15,10 @@ Inv-loop entry j base dim rest₀ k₀ rest k = (j + 1 ≤ k) × (k ≤ dim) × 
 abbrev μ-loop : tie.MeasureT-loop
 μ-loop entry j base dim rest₀ k₀ rest k = dim - k
 
-add-k : tie.Need-add-k Inv-loop μ-loop
-add-k c = search needs
-
 loop-holds : tie.Need-loop-holds Inv-loop μ-loop
 loop-holds c =
     let q : c .args .j + 1 - (c .args .j + 1) ≡ 0 = omega arith in
     (omega arith, omega arith, rw (q, pow-zero, div-one))
-
-div-rest : tie.Need-div-rest Inv-loop μ-loop
-div-rest c = search needs
-
-add-k-2 : tie.Need-add-k-2 Inv-loop μ-loop
-add-k-2 c = search needs
-
-loop-less : tie.Need-loop-less Inv-loop μ-loop
-loop-less c = search needs
 
 loop-again : tie.Need-loop-again Inv-loop μ-loop
 loop-again c =
@@ -38,9 +26,6 @@ loop-again c =
     let j = c .before .before .args .j in
     let q : l .k - (j + 1) + 1 ≡ l .k + 1 - (j + 1) = omega arith in
     (omega arith, omega arith, rw (l .inv .2, div-again, q))
-
-rem-result : tie.Need-rem-result Inv-loop μ-loop
-rem-result c = search needs
 
 returns : tie.Need-returns Inv-loop μ-loop
 unfolding digit
@@ -53,4 +38,5 @@ returns c =
 pub entry-digit-spec : {M : Type 1} → statement M
 entry-digit-spec =
     tie.close
-    (tie.spec Inv-loop μ-loop add-k loop-holds div-rest add-k-2 loop-less loop-again rem-result returns)
+    (tie.spec Inv-loop μ-loop (λ c. search needs) loop-holds (λ c. search needs) (λ c. search needs)
+    (λ c. search needs) loop-again (λ c. search needs) returns)

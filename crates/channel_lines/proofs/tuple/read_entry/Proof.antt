@@ -5,39 +5,6 @@ use borrow.Author.Needs.{needs}
 use Rattle.channel_lines.proofs.tuple.read_entry.Statement.{statement}
 use Rattle.channel_lines.proofs.tuple.read_entry.Tie as tie
 
-book-1-word-requires : tie.Need-book-1-word-requires
-book-1-word-requires c κs = search needs
-
-book-2-word-requires : tie.Need-book-2-word-requires
-book-2-word-requires c κs = search needs
-
-book-3-word-requires : tie.Need-book-3-word-requires
-book-3-word-requires c κs = search needs
-
-book-4-word-requires : tie.Need-book-4-word-requires
-book-4-word-requires c κs = search needs
-
-book-5-word-requires : tie.Need-book-5-word-requires
-book-5-word-requires c κs = search needs
-
-book-6-word-requires : tie.Need-book-6-word-requires
-book-6-word-requires c κs = search needs
-
-book-7-word-requires : tie.Need-book-7-word-requires
-book-7-word-requires c κs = search needs
-
-book-8-word-requires : tie.Need-book-8-word-requires
-book-8-word-requires c κs = search needs
-
-book-9-word-requires : tie.Need-book-9-word-requires
-book-9-word-requires c κs = search needs
-
-book-10-word-requires : tie.Need-book-10-word-requires
-book-10-word-requires c κs = search needs
-
-book-11-word-requires : tie.Need-book-11-word-requires
-book-11-word-requires c κs = search needs
-
 returns : tie.Need-returns
 unfolding spectralWord
 returns c = rw (c .before .match .keys1) (c .book-1-word .ensures)
@@ -93,7 +60,7 @@ returns-11 c =
 pub read-entry-spec : {M : Type 1} → statement M
 read-entry-spec =
     tie.close
-    (tie.spec book-1-word-requires book-2-word-requires book-3-word-requires book-4-word-requires book-5-word-requires
-    book-6-word-requires book-7-word-requires book-8-word-requires book-9-word-requires book-10-word-requires
-    book-11-word-requires returns returns-2 returns-3 returns-4 returns-5 returns-6 returns-7 returns-8 returns-9
-    returns-10 returns-11)
+    (tie.spec (λ c κs. search needs) (λ c κs. search needs) (λ c κs. search needs) (λ c κs. search needs)
+    (λ c κs. search needs) (λ c κs. search needs) (λ c κs. search needs) (λ c κs. search needs) (λ c κs. search needs)
+    (λ c κs. search needs) (λ c κs. search needs) returns returns-2 returns-3 returns-4 returns-5 returns-6 returns-7
+    returns-8 returns-9 returns-10 returns-11)

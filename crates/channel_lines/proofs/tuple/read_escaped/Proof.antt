@@ -13,24 +13,12 @@ use Rattle.channel_lines.proofs.tuple.read_escaped.Tie as tie
 abbrev now : tie.After-value → ℤ
 now c = getD (c .before .before .args .values .now) (c .before .before .args .j) (pos 0)
 
-mul-value : tie.Need-mul-value
-mul-value c = search needs
-
-element-copy-out-value : tie.Need-element-copy-out-value
-element-copy-out-value c = search needs
-
-read-escape-at-requires : tie.Need-read-escape-at-requires
-read-escape-at-requires c κs = search needs
-
 returns : tie.Need-returns
 unfolding escaped
 returns c =
     let at-value = c .before .before .before in
     let flag = is-16 (now at-value) (record { sfits = at-value .value .given }) (c .before .before .if1 .taken) in
     c .read-escape-at .ensures ∙ rw flag
-
-read-escape-at-requires-2 : tie.Need-read-escape-at-requires-2
-read-escape-at-requires-2 c κs = search needs
 
 returns-2 : tie.Need-returns-2
 unfolding escaped
@@ -46,5 +34,5 @@ returns-3 c = rw (ne-eqb _ _ (not-16 (now (c .before .before)) (c .before .if1 .
 pub read-escaped-spec : {M : Type 1} → statement M
 read-escaped-spec =
     tie.close
-    (tie.spec mul-value element-copy-out-value read-escape-at-requires returns read-escape-at-requires-2 returns-2
+    (tie.spec (λ c. search needs) (λ c. search needs) (λ c κs. search needs) returns (λ c κs. search needs) returns-2
     returns-3)

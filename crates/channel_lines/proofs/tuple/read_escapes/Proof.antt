@@ -20,27 +20,12 @@ abbrev μ-loop : tie.MeasureT-loop
 loop-holds : tie.Need-loop-holds Inv-loop μ-loop
 loop-holds c = (omega arith, counted-start _ _ _ _ _ _)
 
-read-escaped-requires : tie.Need-read-escaped-requires Inv-loop μ-loop
-read-escaped-requires c κs = search needs
-
-enum-known-read : tie.Need-enum-known-read Inv-loop μ-loop
-enum-known-read c = search needs
-
-enum-told : tie.Need-enum-told Inv-loop μ-loop
-enum-told c = search needs
-
 returns : tie.Need-returns Inv-loop μ-loop
 returns c =
     let told = c .enum-told .given .1 in
     let at-escaped = c .before .before in
     let l = at-escaped .before .before .before .loop in
     rw told (sym (l .inv .1 ∙ counted-stop _ _ _ _ _ _ _ _ _ (omega arith) (ended-is _ (at-escaped .read-escaped .ensures) told)))
-
-add-j : tie.Need-add-j Inv-loop μ-loop
-add-j c = search needs
-
-loop-less : tie.Need-loop-less Inv-loop μ-loop
-loop-less c = search needs
 
 loop-again : tie.Need-loop-again Inv-loop μ-loop
 loop-again c =
@@ -55,5 +40,5 @@ returns-2 c = sym (c .before .loop .inv .1 ∙ counted-done _ _ _ _ _ _ _ (omega
 pub read-escapes-spec : {M : Type 1} → statement M
 read-escapes-spec =
     tie.close
-    (tie.spec Inv-loop μ-loop loop-holds read-escaped-requires enum-known-read enum-told returns add-j loop-less
-    loop-again returns-2)
+    (tie.spec Inv-loop μ-loop loop-holds (λ c κs. search needs) (λ c. search needs) (λ c. search needs) returns
+    (λ c. search needs) (λ c. search needs) loop-again returns-2)

@@ -7,32 +7,11 @@ use borrow.Author.Needs.{needs}
 use Rattle.channel_lines.proofs.tuple.read_tuple.Statement.{statement}
 use Rattle.channel_lines.proofs.tuple.read_tuple.Tie as tie
 
-read-entry-requires : tie.Need-read-entry-requires
-read-entry-requires c κs = search needs
-
-enum-known-word : tie.Need-enum-known-word
-enum-known-word c = search needs
-
-enum-told : tie.Need-enum-told
-enum-told c = search needs
-
-passed-on-requires : tie.Need-passed-on-requires
-passed-on-requires c κs = search needs
-
 returns : tie.Need-returns
 unfolding tuple
 returns c =
     let told = c .before .enum-told .given .1 in
     passed _ (c .passed-on .ensures) told ∙ rw (answered (c .before .before .before .read-entry .ensures) told)
-
-read-values-requires : tie.Need-read-values-requires
-read-values-requires c κs = search needs
-
-enum-known-signed : tie.Need-enum-known-signed
-enum-known-signed c = search needs
-
-enum-told-2 : tie.Need-enum-told-2
-enum-told-2 c = search needs
 
 returns-2 : tie.Need-returns-2
 unfolding tuple
@@ -43,9 +22,6 @@ returns-2 c =
     let zeros = at-entry .before .before .before .before .pre .3 in
     let word = answered (at-entry .read-entry .ensures) (at-values .before .before .before .word .given .1) in
     rw (told, word, ← zeros, ended-is _ (at-values .read-values .ensures) told)
-
-read-escapes-requires : tie.Need-read-escapes-requires
-read-escapes-requires c κs = search needs
 
 returns-3 : tie.Need-returns-3
 unfolding tuple
@@ -71,5 +47,6 @@ returns-4 c =
 pub read-tuple-spec : {M : Type 1} → statement M
 read-tuple-spec =
     tie.close
-    (tie.spec read-entry-requires enum-known-word enum-told passed-on-requires returns read-values-requires
-    enum-known-signed enum-told-2 returns-2 read-escapes-requires returns-3 returns-4)
+    (tie.spec (λ c κs. search needs) (λ c. search needs) (λ c. search needs) (λ c κs. search needs) returns
+    (λ c κs. search needs) (λ c. search needs) (λ c. search needs) returns-2 (λ c κs. search needs) returns-3
+    returns-4)

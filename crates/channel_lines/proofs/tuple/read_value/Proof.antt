@@ -19,14 +19,8 @@ digit-most c =
     let a = c .before .before in
     omega (arith, c .entry-digit .ensures, digit-small (a .args .book) (a .args .entry) (a .args .j) (a .pre .2))
 
-entry-digit-requires : tie.Need-entry-digit-requires
-entry-digit-requires c κs = search needs
-
 cast-values : tie.Need-cast-values
 cast-values c = omega (arith, digit-most (c .before))
-
-cast-values-2 : tie.Need-cast-values-2
-cast-values-2 c = search needs
 
 sub-values : tie.Need-sub-values
 sub-values c =
@@ -36,12 +30,6 @@ sub-values c =
     let g : offset ≤ 4 = omega arith in
     rw (toZ-pos w16 digit (omega arith), toZ-pos w16 offset (omega arith))
     (fits 20 (abs-add (pos digit) (negℤ (pos offset)) 16 4 h (rw abs-neg g)) (omega arith))
-
-mul-t17 : tie.Need-mul-t17
-mul-t17 c = search needs
-
-element-set-from-values : tie.Need-element-set-from-values
-element-set-from-values c = search needs
 
 returns : tie.Need-returns
 unfolding value
@@ -62,18 +50,6 @@ unfolding value
 returns-2 c =
     rw (eq-eqb _ _ (c .before .if1 .left), ← (c .before .before .entry-digit .ensures), eq-eqb _ _ (c .if2 .taken))
 
-read-field-requires : tie.Need-read-field-requires
-read-field-requires c κs = search needs
-
-enum-known-sign-bit : tie.Need-enum-known-sign-bit
-enum-known-sign-bit c = search needs
-
-enum-told : tie.Need-enum-told
-enum-told c = search needs
-
-passed-on-requires : tie.Need-passed-on-requires
-passed-on-requires c κs = search needs
-
 returns-3 : tie.Need-returns-3
 unfolding value
 returns-3 c =
@@ -90,12 +66,6 @@ returns-3 c =
 
 with-sign-requires : tie.Need-with-sign-requires
 with-sign-requires c κs = omega (arith, digit-most (c .before .before .before .before .before .before))
-
-mul-t21 : tie.Need-mul-t21
-mul-t21 c = search needs
-
-element-set-from-values-2 : tie.Need-element-set-from-values-2
-element-set-from-values-2 c = search needs
 
 returns-4 : tie.Need-returns-4
 unfolding value
@@ -114,6 +84,6 @@ returns-4 c =
 pub read-value-spec : {M : Type 1} → statement M
 read-value-spec =
     tie.close
-    (tie.spec entry-digit-requires cast-values cast-values-2 sub-values mul-t17 element-set-from-values returns
-    returns-2 read-field-requires enum-known-sign-bit enum-told passed-on-requires returns-3 with-sign-requires
-    mul-t21 element-set-from-values-2 returns-4)
+    (tie.spec (λ c κs. search needs) cast-values (λ c. search needs) sub-values (λ c. search needs)
+    (λ c. search needs) returns returns-2 (λ c κs. search needs) (λ c. search needs) (λ c. search needs)
+    (λ c κs. search needs) returns-3 with-sign-requires (λ c. search needs) (λ c. search needs) returns-4)

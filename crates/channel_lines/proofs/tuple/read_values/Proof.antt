@@ -25,24 +25,12 @@ read-value-requires c κs =
     let a = c .before .before .before .before in
     (a .pre .0, c .before .loop-test .taken, a .pre .1)
 
-enum-known-read : tie.Need-enum-known-read Inv-loop μ-loop
-enum-known-read c = search needs
-
-enum-told : tie.Need-enum-told Inv-loop μ-loop
-enum-told c = search needs
-
 returns : tie.Need-returns Inv-loop μ-loop
 returns c =
     let told = c .enum-told .given .1 in
     let at-value = c .before .before in
     let l = at-value .before .before .before .loop in
     rw told (sym (l .inv .1 ∙ counted-stop _ _ _ _ _ _ _ _ _ (omega arith) (ended-is _ (at-value .read-value .ensures) told)))
-
-add-j : tie.Need-add-j Inv-loop μ-loop
-add-j c = search needs
-
-loop-less : tie.Need-loop-less Inv-loop μ-loop
-loop-less c = search needs
 
 loop-again : tie.Need-loop-again Inv-loop μ-loop
 loop-again c =
@@ -57,5 +45,5 @@ returns-2 c = sym (c .before .loop .inv .1 ∙ counted-done _ _ _ _ _ _ _ (omega
 pub read-values-spec : {M : Type 1} → statement M
 read-values-spec =
     tie.close
-    (tie.spec Inv-loop μ-loop loop-holds read-value-requires enum-known-read enum-told returns add-j loop-less
-    loop-again returns-2)
+    (tie.spec Inv-loop μ-loop loop-holds read-value-requires (λ c. search needs) (λ c. search needs) returns
+    (λ c. search needs) (λ c. search needs) loop-again returns-2)

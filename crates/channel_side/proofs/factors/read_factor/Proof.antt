@@ -21,21 +21,9 @@ word : (c : tie.After-word)
     ≡ got (c .word .given .0 .0) (c .word .given .0 .1 .0)
 word c = answered (c .before .before .scale-factor-word .ensures) (c .word .given .1)
 
-element-copy-out-if1 : tie.Need-element-copy-out-if1
-element-copy-out-if1 c = search needs
-
 returns : tie.Need-returns
 unfolding bandFactor
 returns c = (rw (eq-eqb _ _ (c .if1 .taken)), omega arith)
-
-scale-factor-word-requires : tie.Need-scale-factor-word-requires
-scale-factor-word-requires c κs = search needs
-
-enum-known-word : tie.Need-enum-known-word
-enum-known-word c = search needs
-
-enum-told : tie.Need-enum-told
-enum-told c = search needs
 
 returns-2 : tie.Need-returns-2
 unfolding bandFactor factor
@@ -61,12 +49,6 @@ returns-4 c =
       tt,
     )
 
-cast-factors : tie.Need-cast-factors
-cast-factors c = search needs
-
-element-write-factors : tie.Need-element-write-factors
-element-write-factors c = search needs
-
 returns-5 : tie.Need-returns-5
 unfolding bandFactor factor
 returns-5 c =
@@ -78,5 +60,5 @@ returns-5 c =
 pub read-factor-spec : {M : Type 1} → statement M
 read-factor-spec =
     tie.close
-    (tie.spec element-copy-out-if1 returns scale-factor-word-requires enum-known-word enum-told returns-2 add-sum
-    returns-3 returns-4 cast-factors element-write-factors returns-5)
+    (tie.spec (λ c. search needs) returns (λ c κs. search needs) (λ c. search needs) (λ c. search needs) returns-2
+    add-sum returns-3 returns-4 (λ c. search needs) (λ c. search needs) returns-5)

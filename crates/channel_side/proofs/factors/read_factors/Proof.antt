@@ -21,18 +21,6 @@ abbrev μ-loop : tie.MeasureT-loop
 loop-holds : tie.Need-loop-holds Inv-loop μ-loop
 loop-holds c = (omega arith, omega arith, rest-start _ _ _ _ _ _ _)
 
-read-factor-requires : tie.Need-read-factor-requires Inv-loop μ-loop
-read-factor-requires c κs = search needs
-
-enum-known-factor : tie.Need-enum-known-factor Inv-loop μ-loop
-enum-known-factor c = search needs
-
-enum-told : tie.Need-enum-told Inv-loop μ-loop
-enum-told c = search needs
-
-passed-on-requires : tie.Need-passed-on-requires Inv-loop μ-loop
-passed-on-requires c κs = search needs
-
 returns : tie.Need-returns Inv-loop μ-loop
 returns c =
     let told = c .before .enum-told .given .1 in
@@ -40,12 +28,6 @@ returns c =
     let l = at-factor .before .before .before .loop in
     let e = told-is factorAnswer _ (at-factor .read-factor .ensures .0) told in
     passed _ (c .passed-on .ensures) told ∙ sym (l .inv .2 ∙ rest-stop _ _ _ _ _ _ _ _ _ _ (omega arith) e)
-
-add-i : tie.Need-add-i Inv-loop μ-loop
-add-i c = search needs
-
-loop-less : tie.Need-loop-less Inv-loop μ-loop
-loop-less c = search needs
 
 loop-again : tie.Need-loop-again Inv-loop μ-loop
 loop-again c =
@@ -61,5 +43,5 @@ returns-2 c = sym (c .before .loop .inv .2 ∙ rest-done _ _ _ _ _ _ _ _ (c .loo
 pub read-factors-spec : {M : Type 1} → statement M
 read-factors-spec =
     tie.close
-    (tie.spec Inv-loop μ-loop loop-holds read-factor-requires enum-known-factor enum-told passed-on-requires returns
-    add-i loop-less loop-again returns-2)
+    (tie.spec Inv-loop μ-loop loop-holds (λ c κs. search needs) (λ c. search needs) (λ c. search needs)
+    (λ c κs. search needs) returns (λ c. search needs) (λ c. search needs) loop-again returns-2)

@@ -30,15 +30,6 @@ small c =
     let whole = toZ-ofZ w32 (p .result) (record { sfits = p .ok }) in
     in-range (p .result) (rw whole at (c .before .if1 .left)) (rw whole at (c .if2 .left))
 
-mul-pulsed-line : tie.Need-mul-pulsed-line
-mul-pulsed-line c = search needs
-
-element-copy-out-pulsed-line : tie.Need-element-copy-out-pulsed-line
-element-copy-out-pulsed-line c = search needs
-
-pulsed-line-requires : tie.Need-pulsed-line-requires
-pulsed-line-requires c κs = search needs
-
 returns : tie.Need-returns
 returns c =
     let p = c .before .pulsed-line in
@@ -54,12 +45,6 @@ cast-lines c =
     let p = c .before .before .pulsed-line in
     rw (toZ-ofZ w32 (p .result) (record { sfits = p .ok })) (fits 8191 (small c) (omega arith))
 
-mul-t7 : tie.Need-mul-t7
-mul-t7 c = search needs
-
-element-set-from-lines : tie.Need-element-set-from-lines
-element-set-from-lines c = search needs
-
 returns-3 : tie.Need-returns-3
 returns-3 c =
     let p = c .before .before .pulsed-line in
@@ -74,5 +59,5 @@ returns-3 c =
 pub apply-pulse-spec : {M : Type 1} → statement M
 apply-pulse-spec =
     tie.close
-    (tie.spec mul-pulsed-line element-copy-out-pulsed-line pulsed-line-requires returns returns-2 cast-lines mul-t7
-    element-set-from-lines returns-3)
+    (tie.spec (λ c. search needs) (λ c. search needs) (λ c κs. search needs) returns returns-2 cast-lines
+    (λ c. search needs) (λ c. search needs) returns-3)

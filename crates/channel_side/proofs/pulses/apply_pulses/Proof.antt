@@ -25,34 +25,13 @@ abbrev μ-loop : tie.MeasureT-loop
 loop-holds : tie.Need-loop-holds Inv-loop μ-loop
 loop-holds c = (omega arith, λ s end. apply-start _ _ s _ end)
 
-mul-apply-pulse : tie.Need-mul-apply-pulse Inv-loop μ-loop
-mul-apply-pulse c = search needs
-
-element-copy-out-apply-pulse : tie.Need-element-copy-out-apply-pulse Inv-loop μ-loop
-element-copy-out-apply-pulse c = search needs
-
 cast-apply-pulse : tie.Need-cast-apply-pulse Inv-loop μ-loop
 cast-apply-pulse c = omega (arith, c .before .before .before .pre .1 .at (c .before .before .loop .k))
-
-element-copy-out-apply-pulse-2 : tie.Need-element-copy-out-apply-pulse-2 Inv-loop μ-loop
-element-copy-out-apply-pulse-2 c = search needs
-
-mul-apply-pulse-2 : tie.Need-mul-apply-pulse-2 Inv-loop μ-loop
-mul-apply-pulse-2 c = search needs
-
-element-copy-out-apply-pulse-3 : tie.Need-element-copy-out-apply-pulse-3 Inv-loop μ-loop
-element-copy-out-apply-pulse-3 c = search needs
 
 apply-pulse-requires : tie.Need-apply-pulse-requires Inv-loop μ-loop
 apply-pulse-requires c κs =
     let head = c .before .before .before .before .before in
     omega (arith, head .before .pre .1 .at (head .loop .k))
-
-enum-known-applied : tie.Need-enum-known-applied Inv-loop μ-loop
-enum-known-applied c = search needs
-
-enum-told : tie.Need-enum-told Inv-loop μ-loop
-enum-told c = search needs
 
 returns : tie.Need-returns Inv-loop μ-loop
 returns c = λ s end.
@@ -61,12 +40,6 @@ returns c = λ s end.
     let l = at-pulse .before .before .before .before .before .before .loop in
     let e = apply-is _ _ _ s _ end (sym (ended-is _ (at-pulse .apply-pulse .ensures) told)) in
     rw told (sym (l .inv .1 s end ∙ counted-stop _ _ _ _ _ _ _ _ _ (omega arith) e))
-
-add-k : tie.Need-add-k Inv-loop μ-loop
-add-k c = search needs
-
-loop-less : tie.Need-loop-less Inv-loop μ-loop
-loop-less c = search needs
 
 loop-again : tie.Need-loop-again Inv-loop μ-loop
 loop-again c = (
@@ -84,6 +57,6 @@ returns-2 c = λ s end. sym (c .before .loop .inv .1 s end ∙ counted-done _ _ 
 pub apply-pulses-spec : {M : Type 1} → statement M
 apply-pulses-spec =
     tie.close
-    (tie.spec Inv-loop μ-loop loop-holds mul-apply-pulse element-copy-out-apply-pulse cast-apply-pulse
-    element-copy-out-apply-pulse-2 mul-apply-pulse-2 element-copy-out-apply-pulse-3 apply-pulse-requires
-    enum-known-applied enum-told returns add-k loop-less loop-again returns-2)
+    (tie.spec Inv-loop μ-loop loop-holds (λ c. search needs) (λ c. search needs) cast-apply-pulse (λ c. search needs)
+    (λ c. search needs) (λ c. search needs) apply-pulse-requires (λ c. search needs) (λ c. search needs) returns
+    (λ c. search needs) (λ c. search needs) loop-again returns-2)

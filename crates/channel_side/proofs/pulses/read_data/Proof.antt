@@ -36,30 +36,12 @@ line : (c : tie.After-start-field)
     × (getD (entry (before-start c) .args .edges .now) (c .start-field .given .0 .0) 0 ≤ 1024)
 line c = rw (entry (before-start c) .pre .1) (start-line _ _ _ _ _ _ (start c))
 
-read-field-requires : tie.Need-read-field-requires
-read-field-requires c κs = search needs
-
-enum-known-count-field : tie.Need-enum-known-count-field
-enum-known-count-field c = search needs
-
-enum-told : tie.Need-enum-told
-enum-told c = search needs
-
 returns : tie.Need-returns
 unfolding pulseData
 returns c =
     let told = c .enum-told .given .1 in
     let at-count = c .before .before in
     rw told (rw (answered (at-count .read-field .ensures) told), low-blank (at-count .before .before .before .pre .2), tt)
-
-read-start-requires : tie.Need-read-start-requires
-read-start-requires c κs = search needs
-
-enum-known-start-field : tie.Need-enum-known-start-field
-enum-known-start-field c = search needs
-
-enum-told-2 : tie.Need-enum-told-2
-enum-told-2 c = search needs
 
 returns-2 : tie.Need-returns-2
 unfolding pulseData
@@ -68,12 +50,6 @@ returns-2 c =
     let at-start = c .before .before in
     let n = at-start .before .before in
     rw told (rw (count n, answered (at-start .read-start .ensures) told), low-blank (entry n .pre .2), tt)
-
-cast-line : tie.Need-cast-line
-cast-line c = search needs
-
-mul-line : tie.Need-mul-line
-mul-line c = search needs
 
 shared-slice-read-line : tie.Need-shared-slice-read-line
 shared-slice-read-line c = line (c .before .before) .0
@@ -101,6 +77,6 @@ returns-3 c =
 pub read-data-spec : {M : Type 1} → statement M
 read-data-spec =
     tie.close
-    (tie.spec read-field-requires enum-known-count-field enum-told returns read-start-requires enum-known-start-field
-    enum-told-2 returns-2 cast-line mul-line shared-slice-read-line cast-line-2 add-read-each read-each-requires
-    returns-3)
+    (tie.spec (λ c κs. search needs) (λ c. search needs) (λ c. search needs) returns (λ c κs. search needs)
+    (λ c. search needs) (λ c. search needs) returns-2 (λ c. search needs) (λ c. search needs) shared-slice-read-line
+    cast-line-2 add-read-each read-each-requires returns-3)

@@ -19,19 +19,10 @@ abbrev μ-loop : tie.MeasureT-loop
 loop-holds : tie.Need-loop-holds Inv-loop μ-loop
 loop-holds c = (omega arith, omega arith, low-blank (c .before .pre .3), rest-start _ _ _ _ _ _ _ _ (c .before .pre .3))
 
-cast-read-pulse : tie.Need-cast-read-pulse Inv-loop μ-loop
-cast-read-pulse c = search needs
-
 read-pulse-requires : tie.Need-read-pulse-requires Inv-loop μ-loop
 read-pulse-requires c κs =
     let head = c .before .before .before .before in
     (head .before .before .pre .0, omega arith, omega arith, head .loop .inv .2)
-
-enum-known-pulse : tie.Need-enum-known-pulse Inv-loop μ-loop
-enum-known-pulse c = search needs
-
-enum-told : tie.Need-enum-told Inv-loop μ-loop
-enum-told c = search needs
 
 returns : tie.Need-returns Inv-loop μ-loop
 returns c =
@@ -40,12 +31,6 @@ returns c =
     let l = at-pulse .before .before .before .before .before .loop in
     let r = at-pulse .read-pulse .ensures in
     rw told (sym (l .inv .3 ∙ rest-stop _ _ _ _ _ _ _ _ _ _ _ (omega arith) (pulse-is _ _ _ (r .0) told)), r .1, tt)
-
-add-k : tie.Need-add-k Inv-loop μ-loop
-add-k c = search needs
-
-loop-less : tie.Need-loop-less Inv-loop μ-loop
-loop-less c = search needs
 
 loop-again : tie.Need-loop-again Inv-loop μ-loop
 loop-again c =
@@ -68,5 +53,5 @@ returns-2 c =
 pub read-each-spec : {M : Type 1} → statement M
 read-each-spec =
     tie.close
-    (tie.spec Inv-loop μ-loop loop-holds cast-read-pulse read-pulse-requires enum-known-pulse enum-told returns add-k
-    loop-less loop-again returns-2)
+    (tie.spec Inv-loop μ-loop loop-holds (λ c. search needs) read-pulse-requires (λ c. search needs)
+    (λ c. search needs) returns (λ c. search needs) (λ c. search needs) loop-again returns-2)

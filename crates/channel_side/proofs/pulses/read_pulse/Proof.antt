@@ -21,15 +21,6 @@ offset : (c : tie.After-offset-field)
     ≡ got (c .offset-field .given .0 .0) (c .offset-field .given .0 .1 .0)
 offset c = answered (c .before .before .read-field .ensures) (c .offset-field .given .1)
 
-read-field-requires : tie.Need-read-field-requires
-read-field-requires c κs = search needs
-
-enum-known-offset-field : tie.Need-enum-known-offset-field
-enum-known-offset-field c = search needs
-
-enum-told : tie.Need-enum-told
-enum-told c = search needs
-
 returns : tie.Need-returns
 unfolding pulse here
 returns c =
@@ -46,15 +37,6 @@ returns-2 c =
     let o = c .before .before in
     (rw (offset o, lt-leb _ _ (c .if1 .taken)), entry o .pre .3, tt)
 
-read-field-requires-2 : tie.Need-read-field-requires-2
-read-field-requires-2 c κs = search needs
-
-enum-known-amplitude-field : tie.Need-enum-known-amplitude-field
-enum-known-amplitude-field c = search needs
-
-enum-told-2 : tie.Need-enum-told-2
-enum-told-2 c = search needs
-
 returns-3 : tie.Need-returns-3
 unfolding pulse here
 returns-3 c =
@@ -64,25 +46,10 @@ returns-3 c =
     let o = judged .before .before in
     rw told (rw (offset o, le-leb _ _ (judged .if1 .left), answered (at-amplitude .read-field2 .ensures) told), entry o .pre .3, tt)
 
-mul-lines : tie.Need-mul-lines
-mul-lines c = search needs
-
-element-write-lines : tie.Need-element-write-lines
-element-write-lines c = search needs
-
 cast-amplitudes : tie.Need-cast-amplitudes
 cast-amplitudes c =
     let amplitude = answered (c .before .before .before .read-field2 .ensures) (c .before .amplitude-field .given .1) in
     omega (arith, field-below 4 _ _ _ _ _ amplitude)
-
-element-write-amplitudes : tie.Need-element-write-amplitudes
-element-write-amplitudes c = search needs
-
-mul-places : tie.Need-mul-places
-mul-places c = search needs
-
-element-write-places : tie.Need-element-write-places
-element-write-places c = search needs
 
 returns-4 : tie.Need-returns-4
 unfolding pulse here
@@ -99,6 +66,6 @@ returns-4 c =
 pub read-pulse-spec : {M : Type 1} → statement M
 read-pulse-spec =
     tie.close
-    (tie.spec read-field-requires enum-known-offset-field enum-told returns add-line returns-2 read-field-requires-2
-    enum-known-amplitude-field enum-told-2 returns-3 mul-lines element-write-lines cast-amplitudes
-    element-write-amplitudes mul-places element-write-places returns-4)
+    (tie.spec (λ c κs. search needs) (λ c. search needs) (λ c. search needs) returns add-line returns-2
+    (λ c κs. search needs) (λ c. search needs) (λ c. search needs) returns-3 (λ c. search needs) (λ c. search needs)
+    cast-amplitudes (λ c. search needs) (λ c. search needs) (λ c. search needs) returns-4)

@@ -8,15 +8,6 @@ use borrow.Author.Needs.{needs}
 use Rattle.channel_side.proofs.pulses.read_pulses.Statement.{statement}
 use Rattle.channel_side.proofs.pulses.read_pulses.Tie as tie
 
-read-field-requires : tie.Need-read-field-requires
-read-field-requires c κs = search needs
-
-enum-known-flag-field : tie.Need-enum-known-flag-field
-enum-known-flag-field c = search needs
-
-enum-told : tie.Need-enum-told
-enum-told c = search needs
-
 returns : tie.Need-returns
 unfolding pulses
 returns c =
@@ -60,5 +51,5 @@ returns-4 c =
 pub read-pulses-spec : {M : Type 1} → statement M
 read-pulses-spec =
     tie.close
-    (tie.spec read-field-requires enum-known-flag-field enum-told returns returns-2 returns-3 read-data-requires
-    returns-4)
+    (tie.spec (λ c κs. search needs) (λ c. search needs) (λ c. search needs) returns returns-2 returns-3
+    read-data-requires returns-4)

@@ -6,23 +6,11 @@ use borrow.Author.Needs.{needs}
 use Rattle.channel_side.proofs.pulses.read_start.Statement.{statement}
 use Rattle.channel_side.proofs.pulses.read_start.Tie as tie
 
-read-field-requires : tie.Need-read-field-requires
-read-field-requires c κs = search needs
-
-enum-known-band-field : tie.Need-enum-known-band-field
-enum-known-band-field c = search needs
-
-enum-told : tie.Need-enum-told
-enum-told c = search needs
-
 returns : tie.Need-returns
 unfolding startBand
 returns c =
     let told = c .enum-told .given .1 in
     rw (told, answered (c .before .before .read-field .ensures) told)
-
-band-count-requires : tie.Need-band-count-requires
-band-count-requires c κs = search needs
 
 returns-2 : tie.Need-returns-2
 unfolding startBand
@@ -45,4 +33,5 @@ returns-3 c =
 pub read-start-spec : {M : Type 1} → statement M
 read-start-spec =
     tie.close
-    (tie.spec read-field-requires enum-known-band-field enum-told returns band-count-requires returns-2 returns-3)
+    (tie.spec (λ c κs. search needs) (λ c. search needs) (λ c. search needs) returns (λ c κs. search needs) returns-2
+    returns-3)

@@ -36,17 +36,8 @@ returns c = c .read-group .ensures ∙ books-long _ _ _ _ _ _ _ (not-true _ (c .
 loop-holds : tie.Need-loop-holds Inv-loop μ-loop
 loop-holds c = (omega arith, omega arith, books-short _ _ _ _ _ _ _ (not-false _ (c .if1 .left)))
 
-group-length-requires : tie.Need-group-length-requires Inv-loop μ-loop
-group-length-requires c κs = search needs
-
 read-group-requires-2 : tie.Need-read-group-requires-2 Inv-loop μ-loop
 read-group-requires-2 c κs = omega (arith, bounds (c .before .before .before), c .before .group-length .ensures)
-
-enum-known-read : tie.Need-enum-known-read Inv-loop μ-loop
-enum-known-read c = search needs
-
-enum-told : tie.Need-enum-told Inv-loop μ-loop
-enum-told c = search needs
 
 returns-2 : tie.Need-returns-2 Inv-loop μ-loop
 returns-2 c =
@@ -82,5 +73,5 @@ returns-3 c = sym (c .before .loop .inv .2 ∙ books-done _ _ _ _ _ _ _ _ (c .lo
 pub read-books-spec : {M : Type 1} → statement M
 read-books-spec =
     tie.close
-    (tie.spec Inv-loop μ-loop read-group-requires returns loop-holds group-length-requires read-group-requires-2
-    enum-known-read enum-told returns-2 add-base add-from loop-less loop-again returns-3)
+    (tie.spec Inv-loop μ-loop read-group-requires returns loop-holds (λ c κs. search needs) read-group-requires-2
+    (λ c. search needs) (λ c. search needs) returns-2 add-base add-from loop-less loop-again returns-3)

@@ -22,18 +22,6 @@ loop-holds : tie.Need-loop-holds Inv-loop μ-loop
 unfolding groupSections sectionsFrom
 loop-holds c = (omega arith, refl)
 
-read-section-requires : tie.Need-read-section-requires Inv-loop μ-loop
-read-section-requires c κs = search needs
-
-enum-known-covered : tie.Need-enum-known-covered Inv-loop μ-loop
-enum-known-covered c = search needs
-
-enum-told : tie.Need-enum-told Inv-loop μ-loop
-enum-told c = search needs
-
-passed-on-requires : tie.Need-passed-on-requires Inv-loop μ-loop
-passed-on-requires c κs = search needs
-
 returns : tie.Need-returns Inv-loop μ-loop
 returns c =
     let told = c .before .enum-told .given .1 in
@@ -41,9 +29,6 @@ returns c =
     let turn = at-section .before .before in
     let e = told-is coveredAnswer _ (at-section .read-section .ensures .0) told in
     passed _ (c .passed-on .ensures) told ∙ sym (turn .before .loop .inv .1 ∙ sections-stop _ _ _ _ _ _ _ _ (turn .loop-test .taken) e)
-
-cast-count : tie.Need-cast-count Inv-loop μ-loop
-cast-count c = search needs
 
 loop-less : tie.Need-loop-less Inv-loop μ-loop
 loop-less c =
@@ -64,5 +49,5 @@ returns-2 c = sym (c .before .loop .inv .1 ∙ sections-done _ _ _ _ _ _ _ _ (c 
 pub read-group-spec : {M : Type 1} → statement M
 read-group-spec =
     tie.close
-    (tie.spec Inv-loop μ-loop loop-holds read-section-requires enum-known-covered enum-told passed-on-requires returns
-    cast-count loop-less loop-again returns-2)
+    (tie.spec Inv-loop μ-loop loop-holds (λ c κs. search needs) (λ c. search needs) (λ c. search needs)
+    (λ c κs. search needs) returns (λ c. search needs) loop-less loop-again returns-2)

@@ -42,15 +42,6 @@ loop-holds : tie.Need-loop-holds Inv-loop μ-loop
 unfolding sectionLength lengthFrom
 loop-holds c = (omega arith, refl)
 
-read-field-requires : tie.Need-read-field-requires Inv-loop μ-loop
-read-field-requires c κs = search needs
-
-enum-known-increment : tie.Need-enum-known-increment Inv-loop μ-loop
-enum-known-increment c = search needs
-
-enum-told : tie.Need-enum-told Inv-loop μ-loop
-enum-told c = search needs
-
 returns : tie.Need-returns Inv-loop μ-loop
 returns c =
     let told = c .enum-told .given .1 in
@@ -74,15 +65,6 @@ returns-3 c =
     let l = turn .before .before .before .loop in
     (sym (l .inv .1 ∙ length-past _ _ _ _ _ _ (increment turn) (omega arith) (c .if2 .taken)), tt)
 
-add-if3 : tie.Need-add-if3 Inv-loop μ-loop
-add-if3 c = search needs
-
-cast-if3 : tie.Need-cast-if3 Inv-loop μ-loop
-cast-if3 c = search needs
-
-shl-if3 : tie.Need-shl-if3 Inv-loop μ-loop
-shl-if3 c = search needs
-
 returns-4 : tie.Need-returns-4 Inv-loop μ-loop
 returns-4 c =
     let turn = c .before .before .before .before in
@@ -105,5 +87,6 @@ loop-again c =
 pub read-length-spec : {M : Type 1} → statement M
 read-length-spec =
     tie.close
-    (tie.spec Inv-loop μ-loop loop-holds read-field-requires enum-known-increment enum-told returns add-bands
-    returns-2 returns-3 add-if3 cast-if3 shl-if3 returns-4 loop-less loop-again)
+    (tie.spec Inv-loop μ-loop loop-holds (λ c κs. search needs) (λ c. search needs) (λ c. search needs) returns
+    add-bands returns-2 returns-3 (λ c. search needs) (λ c. search needs) (λ c. search needs) returns-4 loop-less
+    loop-again)

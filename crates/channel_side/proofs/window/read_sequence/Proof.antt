@@ -6,23 +6,11 @@ use borrow.Author.Needs.{needs}
 use Rattle.channel_side.proofs.window.read_sequence.Statement.{statement}
 use Rattle.channel_side.proofs.window.read_sequence.Tie as tie
 
-read-unset-bit-requires : tie.Need-read-unset-bit-requires
-read-unset-bit-requires c κs = search needs
-
-enum-known-reserved-bit : tie.Need-enum-known-reserved-bit
-enum-known-reserved-bit c = search needs
-
-enum-told : tie.Need-enum-told
-enum-told c = search needs
-
 returns : tie.Need-returns
 unfolding windowSequence
 returns c =
     let told = c .enum-told .given .1 in
     rw (told, answered (c .before .before .read-unset-bit .ensures) told)
-
-read-field-requires : tie.Need-read-field-requires
-read-field-requires c κs = search needs
 
 returns-2 : tie.Need-returns-2
 unfolding windowSequence
@@ -33,4 +21,4 @@ returns-2 c =
 pub read-sequence-spec : {M : Type 1} → statement M
 read-sequence-spec =
     tie.close
-    (tie.spec read-unset-bit-requires enum-known-reserved-bit enum-told returns read-field-requires returns-2)
+    (tie.spec (λ c κs. search needs) (λ c. search needs) (λ c. search needs) returns (λ c κs. search needs) returns-2)

@@ -8,36 +8,12 @@ use borrow.Author.Needs.{needs}
 use Rattle.channel_side.proofs.window.read_window.Statement.{statement}
 use Rattle.channel_side.proofs.window.read_window.Tie as tie
 
-read-sequence-requires : tie.Need-read-sequence-requires
-read-sequence-requires c κs = search needs
-
-enum-known-sequence-field : tie.Need-enum-known-sequence-field
-enum-known-sequence-field c = search needs
-
-enum-told : tie.Need-enum-told
-enum-told c = search needs
-
-refused-window-requires : tie.Need-refused-window-requires
-refused-window-requires c κs = search needs
-
 returns : tie.Need-returns
 unfolding window
 returns c =
     let told = c .before .enum-told .given .1 in
     let none = c .refused-window .ensures in
     (passed _ (none .0) told ∙ rw (answered (c .before .before .before .read-sequence .ensures) told), rw (none .1) (omega arith))
-
-read-field-requires : tie.Need-read-field-requires
-read-field-requires c κs = search needs
-
-enum-known-shape-field : tie.Need-enum-known-shape-field
-enum-known-shape-field c = search needs
-
-enum-told-2 : tie.Need-enum-told-2
-enum-told-2 c = search needs
-
-refused-window-requires-2 : tie.Need-refused-window-requires-2
-refused-window-requires-2 c κs = search needs
 
 returns-2 : tie.Need-returns-2
 unfolding window
@@ -70,6 +46,6 @@ returns-3 c =
 pub read-window-spec : {M : Type 1} → statement M
 read-window-spec =
     tie.close
-    (tie.spec read-sequence-requires enum-known-sequence-field enum-told refused-window-requires returns
-    read-field-requires enum-known-shape-field enum-told-2 refused-window-requires-2 returns-2
+    (tie.spec (λ c κs. search needs) (λ c. search needs) (λ c. search needs) (λ c κs. search needs) returns
+    (λ c κs. search needs) (λ c. search needs) (λ c. search needs) (λ c κs. search needs) returns-2
     read-window-bands-requires returns-3)

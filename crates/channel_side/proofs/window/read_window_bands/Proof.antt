@@ -8,36 +8,12 @@ use borrow.Author.Needs.{needs}
 use Rattle.channel_side.proofs.window.read_window_bands.Statement.{statement}
 use Rattle.channel_side.proofs.window.read_window_bands.Tie as tie
 
-read-max-sfb-requires : tie.Need-read-max-sfb-requires
-read-max-sfb-requires c κs = search needs
-
-enum-known-max-sfb-field : tie.Need-enum-known-max-sfb-field
-enum-known-max-sfb-field c = search needs
-
-enum-told : tie.Need-enum-told
-enum-told c = search needs
-
-refused-window-requires : tie.Need-refused-window-requires
-refused-window-requires c κs = search needs
-
 returns : tie.Need-returns
 unfolding windowBands
 returns c =
     let told = c .before .enum-told .given .1 in
     let none = c .refused-window .ensures in
     (passed _ (none .0) told ∙ rw (answered (c .before .before .before .read-max-sfb .ensures) told), rw (none .1) (omega arith))
-
-read-grouping-requires : tie.Need-read-grouping-requires
-read-grouping-requires c κs = search needs
-
-enum-known-grouping-field : tie.Need-enum-known-grouping-field
-enum-known-grouping-field c = search needs
-
-enum-told-2 : tie.Need-enum-told-2
-enum-told-2 c = search needs
-
-refused-window-requires-2 : tie.Need-refused-window-requires-2
-refused-window-requires-2 c κs = search needs
 
 returns-2 : tie.Need-returns-2
 unfolding windowBands
@@ -48,12 +24,6 @@ returns-2 c =
     let field = at-grouping .before .before in
     let most = answered (field .before .before .read-max-sfb .ensures) (field .max-sfb-field .given .1) in
     (passed _ (none .0) told ∙ rw (most, answered (at-grouping .read-grouping .ensures) told), rw (none .1) (omega arith))
-
-cast-t16 : tie.Need-cast-t16
-cast-t16 c = search needs
-
-cast-t17 : tie.Need-cast-t17
-cast-t17 c = search needs
 
 cast-t18 : tie.Need-cast-t18
 cast-t18 c =
@@ -76,6 +46,6 @@ returns-3 c =
 pub read-window-bands-spec : {M : Type 1} → statement M
 read-window-bands-spec =
     tie.close
-    (tie.spec read-max-sfb-requires enum-known-max-sfb-field enum-told refused-window-requires returns
-    read-grouping-requires enum-known-grouping-field enum-told-2 refused-window-requires-2 returns-2 cast-t16 cast-t17
-    cast-t18 cast-t19 returns-3)
+    (tie.spec (λ c κs. search needs) (λ c. search needs) (λ c. search needs) (λ c κs. search needs) returns
+    (λ c κs. search needs) (λ c. search needs) (λ c. search needs) (λ c κs. search needs) returns-2
+    (λ c. search needs) (λ c. search needs) cast-t18 cast-t19 returns-3)
