@@ -34,7 +34,7 @@ abbrev pub refusal : ℕ → Reading
 refusal n =
     record { number = n; gain = 0; sequence = 0; shape = 0; «max_sfb» = 0; «group_count» = 0; groups = replicate 8 0; bits = 0 }
 
--- the answer to a stream that begins so, and the bits that it used
+-- the answer to a stream with a head, and the bits that it used
 abbrev pub accepted : Head → ℕ → Reading
 accepted h bits =
     record {

@@ -56,6 +56,6 @@ streamAfter index head = do
   coded ← codedOf index (head .window) books
   give (record { head = head; books = books; factors = factors; coded = coded })
 
--- of a sampling index, 3, 4, 6 or 7
+-- a stream of a sampling index, 3, 4, 6 or 7
 unfoldable pub stream : ℕ → Reader Stream
 stream index = headOf index >>= streamAfter index

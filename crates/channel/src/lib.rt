@@ -77,7 +77,7 @@ fn refused(number: u8) -> Reading
     }
 }
 
-// The answer to a stream that begins so.
+// The answer to a stream with a head, and the bits that it used.
 fn answer(head: Head, bits: usize) -> Reading
     ensures { λ r. ⌜ r ≡ accepted head bits ⌝ }
 {

@@ -27,7 +27,7 @@ long67 =
 unfoldable pub short67 : List ℕ
 short67 = 0 ∷ 4 ∷ 8 ∷ 12 ∷ 16 ∷ 20 ∷ 24 ∷ 28 ∷ 36 ∷ 44 ∷ 52 ∷ 64 ∷ 76 ∷ 92 ∷ 108 ∷ 128 ∷ []
 
--- by the sampling index, 3 or 4, else 6 or 7, and whether windows are short
+-- the bands of a sampling index, 3 or 4, else 6 or 7, for short or long windows
 unfoldable pub bands : ℕ → Bool → List ℕ
 bands index short = pick short (pick (leb index 4) short34 short67) (pick (leb index 4) long34 long67)
 

@@ -29,7 +29,7 @@ band b first width lines = pick (isSilent b) (give lines) (counted 0 (width / b 
 abbrev pub windowBand : ℕ → ℕ → ℕ → ℕ → List ℤ → Reader (List ℤ)
 windowBand number first width v = band (bookOf number) (128 * v + first) width
 
--- the same band of the n windows from a window on
+-- a band of a book's number, in each of the n windows from a window on
 unfoldable pub windowsBand : ℕ → ℕ → ℕ → ℕ → ℕ → List ℤ → Reader (List ℤ)
 windowsBand number first width from n = counted from n (windowBand number first width)
 
@@ -37,7 +37,7 @@ windowsBand number first width from n = counted from n (windowBand number first 
 unfoldable pub groupBand : List ℕ → List ℕ → ℕ → ℕ → ℕ → ℕ → List ℤ → Reader (List ℤ)
 groupBand edges books base from n b = windowsBand (getD books (base + b) 0) (firstLine edges b) (bandWidth edges b) from n
 
--- groups of so many windows each, of which the first starts at a window, with its books from a base on
+-- the lines of groups of so many windows each; the first group starts at a window, and its books at a base
 unfoldable pub groupLines : List ℕ → ℕ → List ℕ → List ℕ → ℕ → ℕ → List ℤ → Reader (List ℤ)
 groupLines edges maxSfb books [] base from lines = give lines
 groupLines edges maxSfb books (n ∷ ns) base from lines =

@@ -12,14 +12,14 @@ use Rattle.bits.specs.Loop.{counted}
 use Rattle.bits.specs.Places.{here}
 use Rattle.channel_lines.specs.Bands.{bands, bandCount, firstLine}
 
--- how many there are, and in four places the line, the amplitude and the place of each
+-- how many pulses there are, and in four places the line, the amplitude and the place of each
 pub record Pulses : Type 0 where
   pub count : ℕ
   pub lines : List ℕ
   pub amplitudes : List ℕ
   pub places : List ℕ
 
--- pulses that are read: the line of the last, or that where the first offset counts from; and as above
+-- pulses so far: the line that the next offset counts from; and in four places the line, the amplitude and the place of each
 pub record Laid : Type 0 where
   pub last : ℕ
   pub lines : List ℕ
