@@ -9,7 +9,7 @@ use native.Mathlib.Nat.{add-zero, zero-add}
 use lib.ListN.{length, length-append}
 use Rattle.bits.specs.Reader.{got, Reader, give, _>>=_, pick, expecting}
 use Rattle.bits.specs.Field.{field}
-use Rattle.bits.specs.Loop.{counted, more, listed}
+use Rattle.bits.specs.Loop.{counted, more, listed, turns, while}
 use Rattle.bits.specs.Inside.{inside}
 use Rattle.bits.proofs.Lawful.{same-value, split, tested-got}
 use Rattle.bits.proofs.Taken.{field-below}
@@ -68,6 +68,19 @@ counted-gives P g i zero x p = give-gives {P = P (i + 0)} (rw add-zero p)
 counted-gives P {f} g i (suc n) x p =
     let e : i + 1 + n ≡ i + suc n = omega arith in
     bind-gives {r = f i x} (g i x p) λ y q. so-gives (λ z o. subst (λ (k : ℕ). P k z) e o) (counted-gives P g (i + 1) n y q)
+
+-- a loop that goes on while a test holds, each turn of which keeps the property
+turns-gives : {S : Type 0} (P : S → Type 0) (on : S → Bool) {f : S → Reader S} → ((x : S) → P x → Gives P (f x))
+    → (n : ℕ) (x : S) → P x → Gives P (turns n on f x)
+unfolding turns
+turns-gives P on g zero x p = give-gives {P = P} p
+turns-gives P on {f} g (suc n) x p =
+    pick-gives (on x) (λ t. bind-gives {r = f x} (g x p) λ y q. turns-gives P on g n y q) (λ t. give-gives {P = P} p)
+
+pub while-gives : {S : Type 0} (P : S → Type 0) (on : S → Bool) {f : S → Reader S} → ((x : S) → P x → Gives P (f x))
+    → (x : S) → P x → Gives P (while on f x)
+unfolding while
+while-gives P on g x p = record { law = λ s at end next a e. turns-gives P on g _ x p .law s at end next a e }
 
 -- so many readings, each with the property
 pub listed-gives : {A : Type 0} (P : A → Type 0) (f : List A → Reader A) → ((xs : List A) → Gives P (f xs)) → (n : ℕ)

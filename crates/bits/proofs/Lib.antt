@@ -5,6 +5,7 @@ pub mod Lawful
 pub mod FieldLaws
 pub mod Taken
 pub mod LoopLaws
+pub mod WhileLaws
 pub mod PlacesLaws
 pub mod InsideLaws
 pub mod PayloadLaws

@@ -5,7 +5,7 @@ use mathlib.Core.Path.{_≡_, sym, _∙_, ap}
 use mathlib.Core.List.{List}
 use Rattle.bits.specs.Reader.{Answer, got}
 use Rattle.bits.specs.Field.{field}
-use Rattle.bits.specs.InnerAnswers.{fieldAnswer, endedAnswer}
+use Rattle.bits.specs.InnerAnswers.{fieldAnswer, endedAnswer, passedOn}
 use Rattle.bits.specs.declared.Field.{Field}
 use Rattle.bits.specs.declared.Ended.{Ended}
 use Rattle.bits.proofs.BitLaws.{bitsFrom-lt}
@@ -17,6 +17,10 @@ answered e p = sym e ∙ ap fieldAnswer p
 
 pub ended-is : {A : Type 0} (a : A) {r q : Ended} {x : Answer A} → endedAnswer r a ≡ x → r ≡ q → x ≡ endedAnswer q a
 ended-is a e p = sym e ∙ ap (λ (y : Ended). endedAnswer y a) p
+
+-- a field's refusal, passed on as the refusal of what holds it
+pub passed : {A : Type 0} (a : A) {e : Ended} {f g : Field} → e ≡ passedOn f → f ≡ g → endedAnswer e a ≡ endedAnswer (passedOn g) a
+passed a p q = ap (λ (x : Ended). endedAnswer x a) (p ∙ ap passedOn q)
 
 -- a field that was read is below 2 ^ n
 pub field-below : (n : ℕ) (s : List ℕ) (at end v next : ℕ) → field n s at end ≡ got v next → v < 2 ^ n

@@ -14,7 +14,8 @@ use Rattle.channel.specs.declared.Reading.{Reading}
 use Rattle.channel.proofs.StreamLawful.{stream-lawful}
 
 -- two buffers of one length that have the same bytes in the range give the same answer
-pub only-the-range : (buf other : List ℕ) (start end index lines factors books : ℕ) → length buf ≡ length other → range buf start end ≡ range other start end
+pub only-the-range : (buf other : List ℕ) (start end index lines factors books : ℕ) → length buf ≡ length other
+    → range buf start end ≡ range other start end
     → channel buf start end index lines factors books ≡ channel other start end index lines factors books
 unfolding channel
 only-the-range buf other start end index lines factors books l r = rw (l, r)
@@ -25,15 +26,21 @@ pub cut-is-10 : (index : ℕ) (bytes : List ℕ) (next : ℕ) (x : Stream) (k : 
 cut-is-10 index = whole-cut (stream index) (stream-lawful index)
 
 -- what the promise says of a call: its answer, and the lent outputs before and after it
-pub record Promised (buf : List ℕ) (start end index : ℕ) (lines : List ℤ) (factors books : List ℕ) (r : Reading) (lines′ : List ℤ) (factors′ books′ : List ℕ) : Type 0 where
+pub record Promised (buf : List ℕ) (start end index : ℕ) (lines : List ℤ) (factors books : List ℕ) (r : Reading) (lines′ : List ℤ)
+    (factors′ books′ : List ℕ) : Type 0 where
   pub answer : r ≡ readingOf (channel buf start end index (length lines) (length factors) (length books))
   pub lent-lines : lines′ ≡ linesAfter (channel buf start end index (length lines) (length factors) (length books)) lines
   pub lent-factors : factors′ ≡ factorsAfter (channel buf start end index (length lines) (length factors) (length books)) factors
   pub lent-books : books′ ≡ booksAfter (channel buf start end index (length lines) (length factors) (length books)) books
 
 -- two results that the promise allows are equal
-pub one-result : (buf : List ℕ) (start end index : ℕ) (lines : List ℤ) (factors books : List ℕ) (r r′ : Reading) (l l′ : List ℤ) (f f′ b b′ : List ℕ)
+pub one-result : (buf : List ℕ) (start end index : ℕ) (lines : List ℤ) (factors books : List ℕ) (r r′ : Reading) (l l′ : List ℤ)
+    (f f′ b b′ : List ℕ)
     → Promised buf start end index lines factors books r l f b → Promised buf start end index lines factors books r′ l′ f′ b′
     → (r ≡ r′) × (l ≡ l′) × (f ≡ f′) × (b ≡ b′)
-one-result buf start end index lines factors books r r′ l l′ f f′ b b′ p q =
-    (p .answer ∙ sym (q .answer), p .lent-lines ∙ sym (q .lent-lines), p .lent-factors ∙ sym (q .lent-factors), p .lent-books ∙ sym (q .lent-books))
+one-result buf start end index lines factors books r r′ l l′ f f′ b b′ p q = (
+  p .answer ∙ sym (q .answer),
+  p .lent-lines ∙ sym (q .lent-lines),
+  p .lent-factors ∙ sym (q .lent-factors),
+  p .lent-books ∙ sym (q .lent-books),
+)

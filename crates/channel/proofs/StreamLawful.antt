@@ -5,9 +5,9 @@ use mathlib.Core.List.{List}
 use Rattle.bits.proofs.Lawful.{Lawful, bind-lawful, give-lawful}
 use Rattle.bits.proofs.FieldLaws.{field-lawful, zeroBit-lawful}
 use Rattle.channel_lines.proofs.SpectrumLawful.{spectrum-lawful}
-use Rattle.channel_side.specs.Window.{Window}
+use Rattle.channel_side.specs.declared.window.Window.{Window}
 use Rattle.channel_side.proofs.SideLawful.{window-lawful, sections-lawful, factors-lawful, pulses-lawful, applied-lawful}
-use Rattle.channel.specs.Stream.{headOf, unpulsed, codedOf, stream}
+use Rattle.channel.specs.Stream.{headOf, unpulsed, codedOf, streamAfter, stream}
 
 ruleset laws = (bind-lawful, give-lawful, field-lawful, zeroBit-lawful)
 
@@ -24,5 +24,5 @@ unfolding codedOf
 codedOf-lawful index w books = search (laws, pulses-lawful, unpulsed-lawful, applied-lawful) depth 12
 
 pub stream-lawful : (index : ℕ) → Lawful (stream index)
-unfolding stream
+unfolding stream streamAfter
 stream-lawful index = search (laws, headOf-lawful, sections-lawful, factors-lawful, codedOf-lawful) depth 12

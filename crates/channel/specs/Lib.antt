@@ -1,3 +1,3 @@
 pub mod Stream
-pub mod Answers
 pub mod Promise
+pub mod InnerAnswers

@@ -8,7 +8,7 @@ use lib.ListN.{length, drop, replicate}
 use Rattle.bits.specs.Reader.{Answer, got, refused, pick}
 use Rattle.bits.specs.Payload.{inBuffer, range, whole}
 use Rattle.channel_lines.specs.Grouping.{inEight}
-use Rattle.channel_side.specs.Window.{groups}
+use Rattle.channel_side.specs.Window.{maxSfb, groups}
 use Rattle.channel.specs.Stream.{Head, Stream, stream}
 use Rattle.channel.specs.declared.Reading.{Reading}
 
@@ -34,17 +34,17 @@ abbrev pub refusal : ℕ → Reading
 refusal n =
     record { number = n; gain = 0; sequence = 0; shape = 0; «max_sfb» = 0; «group_count» = 0; groups = replicate 8 0; bits = 0 }
 
--- the answer to a stream that begins so, and the bits that it used
+-- the answer to a stream with a head, and the bits that it used
 abbrev pub accepted : Head → ℕ → Reading
 accepted h bits =
     record {
       number = 0;
       gain = h .gain;
-      sequence = h .info .sequence;
-      shape = h .info .shape;
-      «max_sfb» = h .info .maxSfb;
-      «group_count» = length (groups (h .info));
-      groups = inEight (groups (h .info));
+      sequence = h .window .sequence;
+      shape = h .window .shape;
+      «max_sfb» = maxSfb (h .window);
+      «group_count» = length (groups (h .window));
+      groups = inEight (groups (h .window));
       bits = bits;
     }
 

@@ -6,15 +6,12 @@ use Rattle.bits.specs.Reader.{Reader, give, _>>=_}
 use Rattle.bits.specs.Field.{field, zeroBit}
 use Rattle.channel_lines.specs.Bands.{bands}
 use Rattle.channel_lines.specs.Spectrum.{spectrum}
-use Rattle.channel_side.specs.Window.{Window, isShort, groups, window}
+use Rattle.channel_side.specs.declared.window.Window.{Window}
+use Rattle.channel_side.specs.Window.{isShort, maxSfb, groups, window}
 use Rattle.channel_side.specs.Sections.{sections}
 use Rattle.channel_side.specs.Factors.{scaleFactors}
 use Rattle.channel_side.specs.Pulses.{Pulses, pulses, applyPulses}
-
--- global_gain and the window information
-pub record Head : Type 0 where
-  pub gain : ℕ
-  pub info : Window
+pub use Rattle.channel.specs.declared.stream.Head.{Head}
 
 -- the pulses, and the lines before and after them
 pub record Coded : Type 0 where
@@ -33,15 +30,15 @@ pub record Stream : Type 0 where
 unfoldable pub headOf : ℕ → Reader Head
 headOf index = do
   gain ← field 8
-  info ← window index
-  give (record { gain = gain; info = info })
+  w ← window index
+  give (record { gain = gain; window = w })
 
 -- no TNS and no gain control, or 20; then the spectrum
 unfoldable pub unpulsed : ℕ → Window → List ℕ → Reader (List ℤ)
 unpulsed index w books = do
   tns ← zeroBit 20
   control ← zeroBit 20
-  spectrum (bands index (isShort w)) (w .maxSfb) books (groups w)
+  spectrum (bands index (isShort w)) (maxSfb w) books (groups w)
 
 -- pulses; flags and spectrum; then the pulses are applied
 unfoldable pub codedOf : ℕ → Window → List ℕ → Reader Coded
@@ -51,11 +48,14 @@ codedOf index w books = do
   lines ← applyPulses ps before
   give (record { pulses = ps; before = before; lines = lines })
 
--- of a sampling index, 3, 4, 6 or 7
-unfoldable pub stream : ℕ → Reader Stream
-stream index = do
-  head ← headOf index
-  books ← sections (head .info)
-  factors ← scaleFactors (head .gain) (head .info) books
-  coded ← codedOf index (head .info) books
+-- the rest of a stream, after its head
+unfoldable pub streamAfter : ℕ → Head → Reader Stream
+streamAfter index head = do
+  books ← sections (head .window)
+  factors ← scaleFactors (head .gain) (head .window) books
+  coded ← codedOf index (head .window) books
   give (record { head = head; books = books; factors = factors; coded = coded })
+
+-- a stream of a sampling index, 3, 4, 6 or 7
+unfoldable pub stream : ℕ → Reader Stream
+stream index = headOf index >>= streamAfter index

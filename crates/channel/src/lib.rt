@@ -4,11 +4,11 @@ ghost use mathlib.Core.List.{_++_};
 ghost use Prim.Native.Nat.{_*_, _≤_, _<_, _^_};
 ghost use lib.ListN.{length, drop};
 ghost use Rattle.bits.specs.Payload.{whole};
-ghost use Rattle.channel.specs.Answers.{headIn};
 ghost use Rattle.channel.specs.Stream.{stream};
-ghost use Rattle.channel.specs.Promise.{channelCallRefusal, refusal, accepted, channel, readingOf, linesAfter, factorsAfter, booksAfter};
-use crate::stream::Opened;
-use crate::stream::Opening;
+ghost use Rattle.channel.specs.Promise.{channelCallRefusal, refusal, accepted, channel};
+ghost use Rattle.channel.specs.Promise.{readingOf, linesAfter, factorsAfter, booksAfter};
+use crate::stream::Head;
+use bits::Ended;
 use bits::bytes;
 
 mod stream;
@@ -77,19 +77,19 @@ fn refused(number: u8) -> Reading
     }
 }
 
-// The answer to a stream that begins so.
-fn answer(opening: Opening, bits: usize) -> Reading
-    ensures { λ r. ⌜ r ≡ accepted (headIn opening) bits ⌝ }
+// The answer to a stream with a head, and the bits that it used.
+fn answer(head: Head, bits: usize) -> Reading
+    ensures { λ r. ⌜ r ≡ accepted head bits ⌝ }
 {
-    let info = opening.info;
-    let found = channel_lines::grouping::groups_of(info.sequence == 2, info.grouping);
+    let window = head.window;
+    let found = channel_lines::grouping::groups_of(window.sequence == 2, window.grouping);
     let windows = found.windows;
     Reading {
         number: 0,
-        gain: opening.gain,
-        sequence: info.sequence,
-        shape: info.shape,
-        max_sfb: info.sfbs,
+        gain: head.gain,
+        sequence: window.sequence,
+        shape: window.shape,
+        max_sfb: window.max_sfb,
         group_count: found.count as u8,
         groups: windows,
         bits,
@@ -133,15 +133,16 @@ fn read_slice(
     let mut band_books = [0u8; 120];
     let mut band_factors = [0u8; 120];
     let mut all_lines = [0i16; 1024];
-    let r = stream::read_payload(s, index, &mut band_books, &mut band_factors, &mut all_lines);
-    match r {
-        Opened::Read(opening, bits) => {
+    let read = stream::read_payload(s, index, &mut band_books, &mut band_factors, &mut all_lines);
+    let ended = read.ended;
+    match ended {
+        Ended::At(bits) => {
             copy_lines(lines, all_lines);
             copy_bands(factors, band_factors);
             copy_bands(books, band_books);
-            answer(opening, bits)
+            answer(read.head, bits)
         }
-        Opened::Refused(number, _) => refused(number),
+        Ended::Refused(number, _) => refused(number),
     }
 }
 
@@ -156,10 +157,21 @@ pub fn read_channel(
     factors: &mut [u8],
     books: &mut [u8],
 ) -> Reading
-    ensures { λ r. ⌜ r ≡ readingOf (channel (now (buf .entry)) start end index (length (now (lines .entry))) (length (now (factors .entry))) (length (now (books .entry)))) ⌝ }
-    ensures { λ r. ⌜ now (lines .exit) ≡ linesAfter (channel (now (buf .entry)) start end index (length (now (lines .entry))) (length (now (factors .entry))) (length (now (books .entry)))) (now (lines .entry)) ⌝ }
-    ensures { λ r. ⌜ now (factors .exit) ≡ factorsAfter (channel (now (buf .entry)) start end index (length (now (lines .entry))) (length (now (factors .entry))) (length (now (books .entry)))) (now (factors .entry)) ⌝ }
-    ensures { λ r. ⌜ now (books .exit) ≡ booksAfter (channel (now (buf .entry)) start end index (length (now (lines .entry))) (length (now (factors .entry))) (length (now (books .entry)))) (now (books .entry)) ⌝ }
+    ensures { λ r. ⌜ r
+        ≡ readingOf (channel (now (buf .entry)) start end index
+        (length (now (lines .entry))) (length (now (factors .entry))) (length (now (books .entry)))) ⌝ }
+    ensures { λ r. ⌜ now (lines .exit)
+        ≡ linesAfter (channel (now (buf .entry)) start end index
+        (length (now (lines .entry))) (length (now (factors .entry))) (length (now (books .entry))))
+        (now (lines .entry)) ⌝ }
+    ensures { λ r. ⌜ now (factors .exit)
+        ≡ factorsAfter (channel (now (buf .entry)) start end index
+        (length (now (lines .entry))) (length (now (factors .entry))) (length (now (books .entry))))
+        (now (factors .entry)) ⌝ }
+    ensures { λ r. ⌜ now (books .exit)
+        ≡ booksAfter (channel (now (buf .entry)) start end index
+        (length (now (lines .entry))) (length (now (factors .entry))) (length (now (books .entry))))
+        (now (books .entry)) ⌝ }
 {
     let first = start as usize;
     let last = end as usize;

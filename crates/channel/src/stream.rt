@@ -1,17 +1,18 @@
 // A whole channel stream, read into lent arrays of zeros.
 ghost use mathlib.Core.Path.{_≡_};
 ghost use Prim.Native.Nat.{_*_, _≤_, _<_, _^_};
-ghost use lib.Dec.{eqb};
 ghost use lib.IntN.{pos};
 ghost use lib.ListN.{length, replicate};
-ghost use Rattle.tables.specs.Tables.{Tables};
-ghost use Rattle.channel_lines.specs.Bands.{bands, bandCount, allEdges};
-ghost use Rattle.channel_side.specs.Answers.{windowOf};
-ghost use Rattle.channel.specs.Answers.{headAnswer, SoundHead, openRefusal, HoldsLines, HoldsStream};
 ghost use Rattle.bits.specs.InnerAnswers.{endedAnswer};
 ghost use Rattle.bits.specs.Payload.{whole};
+ghost use Rattle.tables.specs.Tables.{Tables};
+ghost use Rattle.channel_lines.specs.Bands.{bands};
+ghost use Rattle.channel_lines.specs.InnerBands.{allEdges};
+ghost use Rattle.channel_side.specs.InnerAnswers.{Bounded};
+ghost use Rattle.channel_side.specs.Window.{isShort};
 ghost use Rattle.channel_side.specs.Factors.{scaleFactors};
-ghost use Rattle.channel.specs.Stream.{headOf, unpulsed, codedOf, stream};
+ghost use Rattle.channel.specs.InnerAnswers.{noHead, HoldsLines, HoldsStream};
+ghost use Rattle.channel.specs.Stream.{headOf, unpulsed, codedOf, streamAfter, stream};
 use bits::Ended;
 use bits::Field;
 use channel_lines::bands::part_of;
@@ -21,51 +22,48 @@ use channel_side::factors::read_factors;
 use channel_side::pulses::apply_pulses;
 use channel_side::pulses::read_pulses;
 use channel_side::sections::read_books;
-use channel_side::window::Info;
-use channel_side::window::Windowed;
+use channel_side::window::Window;
+use channel_side::window::no_window;
 use channel_side::window::read_window;
 
-// Gain and window information.
-pub struct Opening {
+// global_gain and the window information.
+pub struct Head {
     pub gain: u8,
-    pub info: Info,
+    pub window: Window,
 }
 
-// Gain and window information with the next place, or a refusal and the place of the field judged.
-pub enum Opened {
-    Read(Opening, usize),
-    Refused(u8, usize),
+// A head that was read, and how the reading that it begins ended.
+pub struct ReadHead {
+    pub ended: Ended,
+    pub head: Head,
 }
 
-// The refusal of a part.
-fn refusal(r: Ended) -> Opened
-    ensures { λ o. ⌜ o ≡ openRefusal r ⌝ }
+// A refusal, with no head.
+fn refused_head(ended: Ended) -> ReadHead
+    ensures { λ r. ⌜ (r .ended ≡ ended) × (r .head ≡ noHead) ⌝ }
 {
-    match r {
-        Ended::At(next) => Opened::Refused(0, next),
-        Ended::Refused(number, place) => Opened::Refused(number, place),
-    }
+    let window = no_window();
+    let head = Head { gain: 0, window };
+    ReadHead { ended, head }
 }
 
-// Gain and window information.
-fn read_head(s: &[u8], at: usize, end: usize, index: u8) -> Opened
+// The head: max_sfb is no more than the number of bands.
+fn read_head(s: &[u8], at: usize, end: usize, index: u8) -> ReadHead
     requires { ⌜ end ≤ 8 * length (now s) ⌝ }
-    ensures { λ r. ⌜ (headAnswer r ≡ headOf index (now (s .entry)) at end) × SoundHead index r ⌝ }
+    ensures { λ r. ⌜ (endedAnswer (r .ended) (r .head) ≡ headOf index (now (s .entry)) at end) × Bounded index (r .head .window) ⌝ }
 {
-    let f = bits::read_field(s, at, end, 8);
-    let Field::Got(gain, next) = f else {
-        return refusal(bits::passed_on(f));
+    let gain_field = bits::read_field(s, at, end, 8);
+    let Field::Got(gain, after_gain) = gain_field else {
+        return refused_head(bits::passed_on(gain_field));
     };
-    match read_window(s, next, end, index) {
-        Windowed::Read(info, last) => Opened::Read(
-            Opening {
-                gain: gain as u8,
-                info,
-            },
-            last,
-        ),
-        Windowed::Refused(number, place) => Opened::Refused(number, place),
-    }
+    let read = read_window(s, after_gain, end, index);
+    let ended = read.ended;
+    let window = read.window;
+    let head = Head {
+        gain: gain as u8,
+        window,
+    };
+    ReadHead { ended, head }
 }
 
 // The flags of TNS and gain control and the spectrum, with the bands of the windows, into lines that are 0.
@@ -77,33 +75,35 @@ fn read_unpulsed(
     lens: &[u8],
     edges: &[usize],
     index: u8,
-    info: Info,
+    window: Window,
     books: &[u8; 120],
     lines: &mut [i16; 1024],
 ) -> Ended
-    requires { ⌜ (end ≤ 8 * length (now s)) × Tables (now codes) (now lens) × (now edges ≡ bands index (eqb (info .sequence) 2)) × (info .sfbs ≤ bandCount index (eqb (info .sequence) 2)) × (now lines ≡ replicate 1024 (pos 0)) ⌝ }
-    ensures { λ r. ⌜ endedAnswer r (now (lines .exit)) ≡ unpulsed index (windowOf info) (now (books .entry)) (now (s .entry)) at end ⌝ }
+    requires { ⌜ (end ≤ 8 * length (now s)) × Tables (now codes) (now lens) × (now edges ≡ bands index (isShort window))
+        × Bounded index window
+        × (now lines ≡ replicate 1024 (pos 0)) ⌝ }
+    ensures { λ r. ⌜ endedAnswer r (now (lines .exit)) ≡ unpulsed index window (now (books .entry)) (now (s .entry)) at end ⌝ }
 {
-    let f1 = bits::read_unset_bit(s, at, end, 20);
-    let Field::Got(_, a1) = f1 else {
-        return bits::passed_on(f1);
+    let tns_flag = bits::read_unset_bit(s, at, end, 20);
+    let Field::Got(_, after_tns) = tns_flag else {
+        return bits::passed_on(tns_flag);
     };
-    let f2 = bits::read_unset_bit(s, a1, end, 20);
-    let Field::Got(_, a2) = f2 else {
-        return bits::passed_on(f2);
+    let control_flag = bits::read_unset_bit(s, after_tns, end, 20);
+    let Field::Got(_, after_control) = control_flag else {
+        return bits::passed_on(control_flag);
     };
-    let short = info.sequence == 2;
-    let sfbs = info.sfbs as usize;
+    let short = window.sequence == 2;
+    let max_sfb = window.max_sfb as usize;
     read_lines(
         s,
-        a2,
+        after_control,
         end,
         codes,
         lens,
         edges,
         short,
-        sfbs,
-        info.grouping,
+        max_sfb,
+        window.grouping,
         books,
         lines,
     )
@@ -118,35 +118,55 @@ fn read_pulsed(
     lens: &[u8],
     edges: &[usize],
     index: u8,
-    info: Info,
+    window: Window,
     books: &[u8; 120],
     lines: &mut [i16; 1024],
 ) -> Ended
-    requires { ⌜ (end ≤ 8 * length (now s)) × Tables (now codes) (now lens) × (now edges ≡ bands index (eqb (info .sequence) 2)) × (info .sfbs ≤ bandCount index (eqb (info .sequence) 2)) × (now lines ≡ replicate 1024 (pos 0)) ⌝ }
-    ensures { λ r. ⌜ HoldsLines r (now (lines .exit)) (codedOf index (windowOf info) (now (books .entry)) (now (s .entry)) at end) ⌝ }
+    requires { ⌜ (end ≤ 8 * length (now s)) × Tables (now codes) (now lens) × (now edges ≡ bands index (isShort window))
+        × Bounded index window
+        × (now lines ≡ replicate 1024 (pos 0)) ⌝ }
+    ensures { λ r. ⌜ HoldsLines r (now (lines .exit)) (codedOf index window (now (books .entry)) (now (s .entry)) at end) ⌝ }
 {
     let mut targets = [0u32; 4];
     let mut amplitudes = [0u8; 4];
     let mut places = [0usize; 4];
-    let f = read_pulses(
+    let pulses_field = read_pulses(
         s,
         at,
         end,
         index,
-        info.sequence == 2,
+        window.sequence == 2,
         edges,
         &mut targets,
         &mut amplitudes,
         &mut places,
     );
-    let Field::Got(count, a1) = f else {
-        return bits::passed_on(f);
+    let Field::Got(count, after_pulses) = pulses_field else {
+        return bits::passed_on(pulses_field);
     };
-    let r = read_unpulsed(s, a1, end, codes, lens, edges, index, info, books, lines);
-    let Ended::At(a2) = r else {
-        return r;
+    let read = read_unpulsed(
+        s,
+        after_pulses,
+        end,
+        codes,
+        lens,
+        edges,
+        index,
+        window,
+        books,
+        lines,
+    );
+    let Ended::At(after_lines) = read else {
+        return read;
     };
-    apply_pulses(a2, count as usize, &targets, &amplitudes, &places, lines)
+    apply_pulses(
+        after_lines,
+        count as usize,
+        &targets,
+        &amplitudes,
+        &places,
+        lines,
+    )
 }
 
 // Pulses, flags and spectrum, with the edges of all bands, into lines that are 0.
@@ -158,14 +178,16 @@ fn read_coded(
     lens: &[u8],
     edges: &[usize],
     index: u8,
-    info: Info,
+    window: Window,
     books: &[u8; 120],
     lines: &mut [i16; 1024],
 ) -> Ended
-    requires { ⌜ (end ≤ 8 * length (now s)) × Tables (now codes) (now lens) × (now edges ≡ allEdges) × (info .sfbs ≤ bandCount index (eqb (info .sequence) 2)) × (now lines ≡ replicate 1024 (pos 0)) ⌝ }
-    ensures { λ r. ⌜ HoldsLines r (now (lines .exit)) (codedOf index (windowOf info) (now (books .entry)) (now (s .entry)) at end) ⌝ }
+    requires { ⌜ (end ≤ 8 * length (now s)) × Tables (now codes) (now lens) × (now edges ≡ allEdges)
+        × Bounded index window
+        × (now lines ≡ replicate 1024 (pos 0)) ⌝ }
+    ensures { λ r. ⌜ HoldsLines r (now (lines .exit)) (codedOf index window (now (books .entry)) (now (s .entry)) at end) ⌝ }
 {
-    let part = part_of(index, info.sequence == 2);
+    let part = part_of(index, window.sequence == 2);
     let first = part.first;
     let last = part.last;
     read_pulsed(
@@ -176,7 +198,7 @@ fn read_coded(
         lens,
         &edges[first..last],
         index,
-        info,
+        window,
         books,
         lines,
     )
@@ -190,26 +212,79 @@ fn read_scale_factors(
     codes: &[u32],
     lens: &[u8],
     index: u8,
-    opening: Opening,
+    head: Head,
     books: &[u8; 120],
     factors: &mut [u8; 120],
 ) -> Ended
-    requires { ⌜ (end ≤ 8 * length (now s)) × Tables (now codes) (now lens) × (opening .info .sfbs ≤ bandCount index (eqb (opening .info .sequence) 2)) × (now factors ≡ replicate 120 0) ⌝ }
-    ensures { λ r. ⌜ endedAnswer r (now (factors .exit)) ≡ scaleFactors (opening .gain) (windowOf (opening .info)) (now (books .entry)) (now (s .entry)) at end ⌝ }
+    requires { ⌜ (end ≤ 8 * length (now s))
+        × Tables (now codes) (now lens)
+        × Bounded index (head .window)
+        × (now factors ≡ replicate 120 0) ⌝ }
+    ensures { λ r. ⌜ endedAnswer r (now (factors .exit))
+        ≡ scaleFactors (head .gain) (head .window) (now (books .entry)) (now (s .entry)) at end ⌝ }
 {
-    let info = opening.info;
-    let groups = groups_of(info.sequence == 2, info.grouping);
-    let n = groups.count * info.sfbs as usize;
-    read_factors(
+    let window = head.window;
+    let groups = groups_of(window.sequence == 2, window.grouping);
+    let n = groups.count * window.max_sfb as usize;
+    read_factors(s, at, end, codes, lens, n, head.gain as u32, books, factors)
+}
+
+// The rest of a stream after its head, with the edges of all bands, into arrays of zeros.
+fn read_body(
+    s: &[u8],
+    at: usize,
+    end: usize,
+    codes: &[u32],
+    lens: &[u8],
+    edges: &[usize],
+    index: u8,
+    head: Head,
+    books: &mut [u8; 120],
+    factors: &mut [u8; 120],
+    lines: &mut [i16; 1024],
+) -> Ended
+    requires { ⌜ (end ≤ 8 * length (now s))
+        × Tables (now codes) (now lens)
+        × (now edges ≡ allEdges)
+        × Bounded index (head .window)
+        × (now books ≡ replicate 120 0)
+        × (now factors ≡ replicate 120 0)
+        × (now lines ≡ replicate 1024 (pos 0)) ⌝ }
+    ensures { λ r. ⌜ HoldsStream r head (now (books .exit)) (now (factors .exit)) (now (lines .exit))
+        (streamAfter index head (now (s .entry)) at end) ⌝ }
+{
+    let window = head.window;
+    let short = window.sequence == 2;
+    let max_sfb = window.max_sfb as usize;
+    let sections = read_books(s, at, end, short, max_sfb, window.grouping, books);
+    let Ended::At(after_sections) = sections else {
+        return sections;
+    };
+    let scale = read_scale_factors(
         s,
-        at,
+        after_sections,
         end,
         codes,
         lens,
-        n,
-        opening.gain as u32,
+        index,
+        head,
         books,
         factors,
+    );
+    let Ended::At(after_factors) = scale else {
+        return scale;
+    };
+    read_coded(
+        s,
+        after_factors,
+        end,
+        codes,
+        lens,
+        edges,
+        index,
+        window,
+        books,
+        lines,
     )
 }
 
@@ -224,29 +299,36 @@ pub fn read_stream(
     books: &mut [u8; 120],
     factors: &mut [u8; 120],
     lines: &mut [i16; 1024],
-) -> Opened
-    requires { ⌜ (end ≤ 8 * length (now s)) × Tables (now codes) (now lens) × (now edges ≡ allEdges) × (now books ≡ replicate 120 0) × (now factors ≡ replicate 120 0) × (now lines ≡ replicate 1024 (pos 0)) ⌝ }
-    ensures { λ r. ⌜ HoldsStream r (now (books .exit)) (now (factors .exit)) (now (lines .exit)) (stream index (now (s .entry)) 0 end) ⌝ }
+) -> ReadHead
+    requires { ⌜ (end ≤ 8 * length (now s))
+        × Tables (now codes) (now lens)
+        × (now edges ≡ allEdges)
+        × (now books ≡ replicate 120 0)
+        × (now factors ≡ replicate 120 0)
+        × (now lines ≡ replicate 1024 (pos 0)) ⌝ }
+    ensures { λ r. ⌜ HoldsStream (r .ended) (r .head) (now (books .exit)) (now (factors .exit)) (now (lines .exit))
+        (stream index (now (s .entry)) 0 end) ⌝ }
 {
-    let h = read_head(s, 0, end, index);
-    let Opened::Read(opening, a1) = h else {
-        return h;
+    let read = read_head(s, 0, end, index);
+    let head_ended = read.ended;
+    let Ended::At(after_head) = head_ended else {
+        return read;
     };
-    let info = opening.info;
-    let short = info.sequence == 2;
-    let r1 = read_books(s, a1, end, short, info.sfbs as usize, info.grouping, books);
-    let Ended::At(a2) = r1 else {
-        return refusal(r1);
-    };
-    let r2 = read_scale_factors(s, a2, end, codes, lens, index, opening, books, factors);
-    let Ended::At(a3) = r2 else {
-        return refusal(r2);
-    };
-    let r3 = read_coded(s, a3, end, codes, lens, edges, index, info, books, lines);
-    let Ended::At(a4) = r3 else {
-        return refusal(r3);
-    };
-    Opened::Read(opening, a4)
+    let head = read.head;
+    let ended = read_body(
+        s,
+        after_head,
+        end,
+        codes,
+        lens,
+        edges,
+        index,
+        head,
+        books,
+        factors,
+        lines,
+    );
+    ReadHead { ended, head }
 }
 
 // A whole payload, into arrays of zeros: at most 7 bits are left after it.
@@ -256,20 +338,25 @@ pub fn read_payload(
     books: &mut [u8; 120],
     factors: &mut [u8; 120],
     lines: &mut [i16; 1024],
-) -> Opened
-    requires { ⌜ (length (now s) < 2 ^ 32) × (now books ≡ replicate 120 0) × (now factors ≡ replicate 120 0) × (now lines ≡ replicate 1024 (pos 0)) ⌝ }
-    ensures { λ r. ⌜ HoldsStream r (now (books .exit)) (now (factors .exit)) (now (lines .exit)) (whole (stream index) (now (s .entry))) ⌝ }
+) -> ReadHead
+    requires { ⌜ (length (now s) < 2 ^ 32)
+        × (now books ≡ replicate 120 0)
+        × (now factors ≡ replicate 120 0)
+        × (now lines ≡ replicate 1024 (pos 0)) ⌝ }
+    ensures { λ r. ⌜ HoldsStream (r .ended) (r .head) (now (books .exit)) (now (factors .exit)) (now (lines .exit))
+        (whole (stream index) (now (s .entry))) ⌝ }
 {
     let codes = tables::codes();
     let lens = tables::lens();
     let edges = channel_lines::bands::edges();
     let end = 8 * s.len();
-    let r = read_stream(s, end, &codes, &lens, &edges, index, books, factors, lines);
-    let Opened::Read(_, next) = r else {
-        return r;
+    let read = read_stream(s, end, &codes, &lens, &edges, index, books, factors, lines);
+    let stream_ended = read.ended;
+    let Ended::At(next) = stream_ended else {
+        return read;
     };
     if 7 < end - next {
-        return Opened::Refused(12, next);
+        return refused_head(Ended::Refused(12, next));
     }
-    r
+    read
 }

@@ -10,7 +10,8 @@ use lib.ListN.{length, getD}
 use borrow.Author.Tests.{le-leb, lt-leb}
 use Rattle.bits.specs.Reader.{pick}
 use Rattle.bits.proofs.Bools.{and-left, and-right}
-use Rattle.channel_lines.specs.Bands.{long34, short34, long67, short67, bands, bandCount, top, most, Rising}
+use Rattle.channel_lines.specs.Bands.{long34, short34, long67, short67, bands, bandCount}
+use Rattle.channel_lines.specs.InnerBands.{windowLines, mostBands, Rising}
 
 -- each number is at most the next, and the last at most n
 abbrev rising : ℕ → List ℕ → Bool
@@ -44,15 +45,15 @@ each-of test a b c d index false = go (leb index 4)
     go false = d
 
 -- the bands of an index rise
-pub bands-rising : (index : ℕ) (short : Bool) → Rising (bands index short) (top short)
-unfolding long34 short34 long67 short67 top
+pub bands-rising : (index : ℕ) (short : Bool) → Rising (bands index short) (windowLines short)
+unfolding long34 short34 long67 short67 windowLines
 bands-rising index short =
-    record { step = risen (top short) (bands index short) (each-of (λ b xs. rising (top b) xs) tt tt tt tt index short) }
+    record { step = risen (windowLines short) (bands index short) (each-of (λ b xs. rising (windowLines b) xs) tt tt tt tt index short) }
 
 -- no index has more bands than the most
-pub bands-most : (index : ℕ) (short : Bool) → bandCount index short ≤ most short
-unfolding long34 short34 long67 short67 most bandCount
-bands-most index short = leb→le _ _ (each-of (λ b xs. leb (length xs - 1) (most b)) tt tt tt tt index short)
+pub bands-most : (index : ℕ) (short : Bool) → bandCount index short ≤ mostBands short
+unfolding long34 short34 long67 short67 mostBands bandCount
+bands-most index short = leb→le _ _ (each-of (λ b xs. leb (length xs - 1) (mostBands b)) tt tt tt tt index short)
 
 -- a list of bands has the end of the last as well
 pub bands-some : (index : ℕ) (short : Bool) → bandCount index short < length (bands index short)
@@ -81,15 +82,15 @@ module _ (index : ℕ) (short : Bool) where
   bands-long67 e h = rw e (simp (lt-leb index 4 h))
 
 -- the lines and the most bands of short and of long windows
-pub of-short : (short : Bool) → short ≡ true → (top short ≡ 128) × (most short ≡ 15)
-unfolding top most
+pub of-short : (short : Bool) → short ≡ true → (windowLines short ≡ 128) × (mostBands short ≡ 15)
+unfolding windowLines mostBands
 of-short short e = rw e (refl, refl)
 
-pub of-long : (short : Bool) → short ≡ false → (top short ≡ 1024) × (most short ≡ 49)
-unfolding top most
+pub of-long : (short : Bool) → short ≡ false → (windowLines short ≡ 1024) × (mostBands short ≡ 49)
+unfolding windowLines mostBands
 of-long short e = rw e (refl, refl)
 
-pub most-small : (short : Bool) → most short ≤ 49
-unfolding most
+pub most-small : (short : Bool) → mostBands short ≤ 49
+unfolding mostBands
 most-small true = omega arith
 most-small false = omega arith

@@ -10,7 +10,7 @@ use native.Mathlib.Omega.{arith}
 use native.Mathlib.Nat.{mul-le-mul, one-mul}
 use native.Mathlib.Numerals.{add-one}
 use borrow.Author.Tests.{eq-eqb, ne-eqb}
-use Rattle.channel_lines.specs.Bands.{most}
+use Rattle.channel_lines.specs.InnerBands.{mostBands}
 use Rattle.channel_lines.specs.Grouping.{groupsFrom, groupsAfter, groupsOf, inEight}
 
 pub group-begin : (from bits : ℕ) → from < 8 → groupsAfter (8 - from) bits ≡ groupsFrom (8 - (from + 1)) bits 1
@@ -26,7 +26,9 @@ module _ (k bits n : ℕ) where
 
   pub group-stop : 0 < k → (bits / 2 ^ (k - 1) % 2 ≡ 1 → ⊥) → groupsFrom k bits n ≡ n ∷ groupsAfter k bits
   unfolding groupsFrom groupsAfter
-  group-stop h e = let q : k ≡ suc (k - 1) = omega arith in ap (λ (j : ℕ). groupsFrom j bits n) q ∙ simp (ne-eqb _ _ e) (ap (λ (j : ℕ). n ∷ groupsAfter j bits) (sym q))
+  group-stop h e =
+      let q : k ≡ suc (k - 1) = omega arith in
+      ap (λ (j : ℕ). groupsFrom j bits n) q ∙ simp (ne-eqb _ _ e) (ap (λ (j : ℕ). n ∷ groupsAfter j bits) (sym q))
 
   pub group-end : k ≡ 0 → groupsFrom k bits n ≡ n ∷ groupsAfter k bits
   unfolding groupsFrom groupsAfter
@@ -42,17 +44,17 @@ pub record Found (all done rest : List ℕ) (windows : List ℕ) (count : ℕ) :
   pub size : length done ≡ count
   pub kept : windows ≡ inEight done
 
-pub found-none : (all : List ℕ) → Found all [] all (replicate 8 0) 0
-found-none all = record { whole = refl; size = refl; kept = refl }
+pub found-none : {all rest : List ℕ} → all ≡ rest → Found all [] rest (replicate 8 0) 0
+found-none e = record { whole = e; size = refl; kept = refl }
 
 set-after : (xs : List ℕ) (k v : ℕ) → set (xs ++ replicate (suc k) 0) (length xs) v ≡ (xs ++ v ∷ []) ++ replicate k 0
 set-after [] k v = refl
 set-after (x ∷ xs) k v = ap (λ (l : List ℕ). x ∷ l) (set-after xs k v)
 
-pub found-more : (all done rest windows : List ℕ) (count n : ℕ) → count < 8 → Found all done (n ∷ rest) windows count
-    → Found all (done ++ n ∷ []) rest (set windows count n) (count + 1)
-found-more all done rest windows count n h f = record {
-  whole = f .whole ∙ sym (append-assoc done (n ∷ []) rest);
+pub found-more : {all done rest more windows : List ℕ} {count n : ℕ} → count < 8 → rest ≡ n ∷ more → Found all done rest windows count
+    → Found all (done ++ n ∷ []) more (set windows count n) (count + 1)
+found-more {done = done} {more = more} {count = count} {n = n} h e f = record {
+  whole = f .whole ∙ ap (λ (l : List ℕ). done ++ l) e ∙ sym (append-assoc done (n ∷ []) more);
   size = rw (length-append done (n ∷ []), f .size);
   kept =
       let l = f .size in
@@ -61,9 +63,10 @@ found-more all done rest windows count n h f = record {
       rw (f .kept, q, ← f .size, set-after done (8 - (length done + 1)) n, e, f .size);
 }
 
-pub found-all : (all done windows : List ℕ) (count : ℕ) → Found all done [] windows count → (count ≡ length all) × (windows ≡ inEight all)
-found-all all done windows count f =
-    let e : all ≡ done = f .whole ∙ append-nil done in
+pub found-all : {all done rest windows : List ℕ} {count : ℕ} → rest ≡ [] → Found all done rest windows count
+    → (count ≡ length all) × (windows ≡ inEight all)
+found-all {all = all} {done = done} q f =
+    let e : all ≡ done = f .whole ∙ ap (λ (l : List ℕ). done ++ l) q ∙ append-nil done in
     (rw e (sym (f .size)), rw e (f .kept))
 
 pub groups-long : (short : Bool) (bits : ℕ) → short ≡ false → groupsOf short bits ≡ 1 ∷ []
@@ -75,7 +78,8 @@ unfolding groupsAfter
 groups-none from bits h = let q : 8 - from ≡ 0 = omega arith in rw q
 
 -- the bands of all groups are 120 at most
-pub groups-room : (short : Bool) (bits count sfbs : ℕ) → count ≡ length (groupsOf short bits) → count ≤ 8 → sfbs ≤ most short → count * sfbs ≤ 120
-unfolding groupsOf most
-groups-room true bits count sfbs e h g = omega (arith, mul-le-mul h g)
-groups-room false bits count sfbs e h g = let q : count ≡ 1 = e in rw (q, one-mul) (omega arith)
+pub groups-room : (short : Bool) (bits count maxSfb : ℕ) → count ≡ length (groupsOf short bits) → count ≤ 8 → maxSfb ≤ mostBands short
+    → count * maxSfb ≤ 120
+unfolding groupsOf mostBands
+groups-room true bits count maxSfb e h g = omega (arith, mul-le-mul h g)
+groups-room false bits count maxSfb e h g = let q : count ≡ 1 = e in rw (q, one-mul) (omega arith)

@@ -1,6 +1,6 @@
 -- The reading laws of the lines: their parts have them, and the ways of putting readers together keep them.
 -- Assumes nothing.
-use Prim.Native.Nat.{ℕ, min}
+use Prim.Native.Nat.{ℕ}
 use mathlib.Core.List.{List, [], _∷_}
 use lib.IntN.{ℤ}
 use Rattle.bits.proofs.Lawful.{Lawful, bind-lawful, give-lawful, pick-lawful}
@@ -8,34 +8,35 @@ use Rattle.bits.proofs.FieldLaws.{field-lawful}
 use Rattle.bits.proofs.LoopLaws.{counted-lawful}
 use Rattle.words.proofs.EscapeLaws.{escape-lawful}
 use Rattle.tables.proofs.Rules.{lawful-at}
-use Rattle.channel_lines.specs.Tuple.{spectral, value, escaped, tuple}
+use Rattle.channel_lines.specs.declared.books.Book.{Book}
+use Rattle.channel_lines.specs.Tuple.{spectralWord, value, escapeAt, escaped, tuple}
 use Rattle.channel_lines.specs.Spectrum.{bandWord, band, windowsBand, groupBand, groupLines, spectrum}
 
 ruleset laws = (bind-lawful, give-lawful, pick-lawful, field-lawful, counted-lawful)
 
-spectral-lawful : (book : ℕ) → Lawful (spectral book)
-unfolding spectral
-spectral-lawful book = lawful-at (min book 11)
+spectral-lawful : (number : ℕ) → Lawful (spectralWord number)
+unfolding spectralWord
+spectral-lawful = lawful-at
 
-value-lawful : (book entry j : ℕ) (vs : List ℤ) → Lawful (value book entry j vs)
+value-lawful : (b : Book) (entry j : ℕ) (vs : List ℤ) → Lawful (value b entry j vs)
 unfolding value
-value-lawful book entry j vs = search laws depth 8
+value-lawful b entry j vs = search laws depth 8
 
 escaped-lawful : (j : ℕ) (vs : List ℤ) → Lawful (escaped j vs)
-unfolding escaped
+unfolding escaped escapeAt
 escaped-lawful j vs = search (laws, escape-lawful) depth 8
 
-tuple-lawful : (book : ℕ) → Lawful (tuple book)
+tuple-lawful : (b : Book) → Lawful (tuple b)
 unfolding tuple
-tuple-lawful book = search (laws, spectral-lawful, value-lawful, escaped-lawful) depth 8
+tuple-lawful b = search (laws, spectral-lawful, value-lawful, escaped-lawful) depth 8
 
-bandWord-lawful : (book first t : ℕ) (lines : List ℤ) → Lawful (bandWord book first t lines)
+bandWord-lawful : (b : Book) (first t : ℕ) (lines : List ℤ) → Lawful (bandWord b first t lines)
 unfolding bandWord
-bandWord-lawful book first t lines = search (laws, tuple-lawful) depth 8
+bandWord-lawful b first t lines = search (laws, tuple-lawful) depth 8
 
-band-lawful : (book first width : ℕ) (lines : List ℤ) → Lawful (band book first width lines)
+band-lawful : (b : Book) (first width : ℕ) (lines : List ℤ) → Lawful (band b first width lines)
 unfolding band
-band-lawful book first width lines = search (laws, bandWord-lawful) depth 8
+band-lawful b first width lines = search (laws, bandWord-lawful) depth 8
 
 groupBand-lawful : (edges books : List ℕ) (base from n b : ℕ) (lines : List ℤ) → Lawful (groupBand edges books base from n b lines)
 unfolding groupBand windowsBand

@@ -8,32 +8,25 @@ use mathlib.Core.Bool.{Bool, false}
 use native.Mathlib.Omega.{arith}
 use native.Mathlib.Nat.{mul-le-mul-right, mul-div-le, mul-comm, suc-mul}
 use native.Mathlib.Numerals.{add-one}
-use borrow.Author.Tests.{eq-eqb, ne-eqb}
 use lib.ListN.{getD}
 use lib.IntN.{ℤ}
 use Rattle.bits.specs.Reader.{Answer, got, refused}
 use Rattle.bits.specs.Loop.{counted}
 use Rattle.channel_lines.specs.Bands.{firstLine, bandWidth}
 use Rattle.channel_lines.specs.Grouping.{groupsAfter, groupsOf}
-use Rattle.channel_lines.specs.Tuple.{dim, tuple}
-use Rattle.channel_lines.specs.Spectrum.{put, bandWord, band, windowBand, windowsBand, groupBand, groupLines}
+use Rattle.channel_lines.specs.declared.books.Book.{Book}
+use Rattle.channel_lines.specs.Tuple.{tuple}
+use Rattle.channel_lines.specs.Spectrum.{put, bandWord, windowBand, windowsBand, groupBand, groupLines}
 
-module _ (book first : ℕ) (lines : List ℤ) (s : List ℕ) (at end : ℕ) where
-  pub band-none : (width : ℕ) → book ≡ 0 → band book first width lines s at end ≡ got lines at
-  unfolding band
-  band-none width o = simp (eq-eqb _ _ o)
-
-  pub band-some : (width : ℕ) → (book ≡ 0 → ⊥) → band book first width lines s at end ≡ counted 0 (width / dim book) (bandWord book first) lines s at end
-  unfolding band
-  band-some width o = simp (ne-eqb _ _ o)
-
-  pub word-cut : (t r p : ℕ) → tuple book s at end ≡ refused r p → bandWord book first t lines s at end ≡ refused r p
+module _ (b : Book) (first t : ℕ) (lines : List ℤ) (s : List ℕ) (at end : ℕ) where
+  pub word-cut : {r p : ℕ} → tuple b s at end ≡ refused r p → bandWord b first t lines s at end ≡ refused r p
   unfolding bandWord
-  word-cut t r p e = simp e
+  word-cut e = rw e
 
-  pub word-got : (t next : ℕ) (vs : List ℤ) → tuple book s at end ≡ got vs next → bandWord book first t lines s at end ≡ got (put lines (first + t * dim book) (dim book) vs) next
+  pub word-got : {next : ℕ} {vs : List ℤ} → tuple b s at end ≡ got vs next
+      → bandWord b first t lines s at end ≡ got (put lines (first + t * b .dim) (b .dim) vs) next
   unfolding bandWord
-  word-got t next vs e = simp e
+  word-got e = rw e
 
 -- the t-th word of a band lies in it
 pub words-fit : (width d t : ℕ) → t < width / d → t * d + d ≤ width
@@ -54,25 +47,27 @@ pub group-band : {x : Answer (List ℤ)} (edges books : List ℕ) (base from n b
 unfolding groupBand firstLine bandWidth
 group-band edges books base from n b lines s at end e = rw add-one at e
 
-module _ (edges : List ℕ) (sfbs : ℕ) (books : List ℕ) (bits base from : ℕ) (lines : List ℤ) (s : List ℕ) (at end : ℕ) where
+module _ (edges : List ℕ) (maxSfb : ℕ) (books : List ℕ) (bits base from : ℕ) (lines : List ℤ) (s : List ℕ) (at end : ℕ) where
   pub lines-stop : (n r p : ℕ) → groupsAfter (8 - from) bits ≡ n ∷ groupsAfter (8 - (from + n)) bits
-      → counted 0 sfbs (groupBand edges books base from n) lines s at end ≡ refused r p
-      → groupLines edges sfbs books (groupsAfter (8 - from) bits) base from lines s at end ≡ refused r p
+      → counted 0 maxSfb (groupBand edges books base from n) lines s at end ≡ refused r p
+      → groupLines edges maxSfb books (groupsAfter (8 - from) bits) base from lines s at end ≡ refused r p
   unfolding groupLines
   lines-stop n r p q e = rw (q, e)
 
   pub lines-more : (n m : ℕ) (ls : List ℤ) → groupsAfter (8 - from) bits ≡ n ∷ groupsAfter (8 - (from + n)) bits
-      → counted 0 sfbs (groupBand edges books base from n) lines s at end ≡ got ls m
-      → groupLines edges sfbs books (groupsAfter (8 - from) bits) base from lines s at end
-      ≡ groupLines edges sfbs books (groupsAfter (8 - (from + n)) bits) (base + sfbs) (from + n) ls s m end
+      → counted 0 maxSfb (groupBand edges books base from n) lines s at end ≡ got ls m
+      → groupLines edges maxSfb books (groupsAfter (8 - from) bits) base from lines s at end
+      ≡ groupLines edges maxSfb books (groupsAfter (8 - (from + n)) bits) (base + maxSfb) (from + n) ls s m end
   unfolding groupLines
-  lines-more n m ls q e = ap (λ (gs : List ℕ). groupLines edges sfbs books gs base from lines s at end) q ∙ rw e
+  lines-more n m ls q e = ap (λ (gs : List ℕ). groupLines edges maxSfb books gs base from lines s at end) q ∙ rw e
 
-  pub lines-done : 8 ≤ from → groupLines edges sfbs books (groupsAfter (8 - from) bits) base from lines s at end ≡ got lines at
+  pub lines-done : 8 ≤ from → groupLines edges maxSfb books (groupsAfter (8 - from) bits) base from lines s at end ≡ got lines at
   unfolding groupLines groupsAfter
   lines-done h = let q : 8 - from ≡ 0 = omega arith in rw q
 
-pub lines-long : (edges : List ℕ) (short : Bool) (sfbs : ℕ) (books : List ℕ) (bits : ℕ) (lines : List ℤ) (s : List ℕ) (at end : ℕ) → short ≡ false
-    → counted 0 sfbs (groupBand edges books 0 0 1) lines s at end ≡ groupLines edges sfbs books (groupsOf short bits) 0 0 lines s at end
+pub lines-long : (edges : List ℕ) (short : Bool) (maxSfb : ℕ) (books : List ℕ) (bits : ℕ) (lines : List ℤ) (s : List ℕ) (at end : ℕ)
+    → short ≡ false
+    → counted 0 maxSfb (groupBand edges books 0 0 1) lines s at end ≡ groupLines edges maxSfb books (groupsOf short bits) 0 0 lines s at end
 unfolding groupLines groupsOf
-lines-long edges short sfbs books bits lines s at end e = rw e (sym (after-give (counted 0 sfbs (groupBand edges books 0 0 1) lines s at end) s end))
+lines-long edges short maxSfb books bits lines s at end e =
+    rw e (sym (after-give (counted 0 maxSfb (groupBand edges books 0 0 1) lines s at end) s end))

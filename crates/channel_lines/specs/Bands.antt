@@ -1,6 +1,6 @@
 -- Bands: the first line of each, and the end of the last.
-use Prim.Native.Nat.{ℕ, suc, _-_, _≤_, _<_}
-use mathlib.Core.List.{List, [], _∷_, _++_}
+use Prim.Native.Nat.{ℕ, suc, _-_}
+use mathlib.Core.List.{List, [], _∷_}
 use mathlib.Core.Bool.{Bool}
 use lib.Dec.{leb}
 use lib.ListN.{length, getD}
@@ -27,7 +27,7 @@ long67 =
 unfoldable pub short67 : List ℕ
 short67 = 0 ∷ 4 ∷ 8 ∷ 12 ∷ 16 ∷ 20 ∷ 24 ∷ 28 ∷ 36 ∷ 44 ∷ 52 ∷ 64 ∷ 76 ∷ 92 ∷ 108 ∷ 128 ∷ []
 
--- by the sampling index, 3 or 4, else 6 or 7, and whether windows are short
+-- the bands of a sampling index, 3 or 4, else 6 or 7, for short or long windows
 unfoldable pub bands : ℕ → Bool → List ℕ
 bands index short = pick short (pick (leb index 4) short34 short67) (pick (leb index 4) long34 long67)
 
@@ -42,19 +42,3 @@ firstLine edges b = getD edges b 0
 -- the lines that a band has
 unfoldable pub bandWidth : List ℕ → ℕ → ℕ
 bandWidth edges b = getD edges (suc b) 0 - getD edges b 0
-
--- the lines of a window
-unfoldable pub top : Bool → ℕ
-top short = pick short 128 1024
-
--- the most bands that a window has, whatever the index
-unfoldable pub most : Bool → ℕ
-most short = pick short 15 49
-
--- the four lists, one after another
-unfoldable pub allEdges : List ℕ
-allEdges = long34 ++ short34 ++ long67 ++ short67
-
--- bands that lie one after another, up to a last line
-pub record Rising (edges : List ℕ) (last : ℕ) : Type 0 where
-  pub step : (b : ℕ) → suc b < length edges → (getD edges b 0 ≤ getD edges (suc b) 0) × (getD edges (suc b) 0 ≤ last)

@@ -1,13 +1,14 @@
 -- The lines, in window order: within a group they are sent by band, then window, then line.
 use Prim.Native.Nat.{ℕ, zero, suc, _+_, _*_, _/_}
 use mathlib.Core.List.{List, [], _∷_}
-use lib.Dec.{eqb}
 use lib.ListN.{getD, set, replicate}
 use lib.IntN.{ℤ, pos}
 use Rattle.bits.specs.Reader.{Reader, give, pick, _>>=_}
 use Rattle.bits.specs.Loop.{counted}
 use Rattle.channel_lines.specs.Bands.{firstLine, bandWidth}
-use Rattle.channel_lines.specs.Tuple.{dim, tuple}
+use Rattle.channel_lines.specs.declared.books.Book.{Book}
+use Rattle.channel_lines.specs.Books.{isSilent, bookOf}
+use Rattle.channel_lines.specs.Tuple.{tuple}
 
 -- the first n of some values put in the lines, from line k on
 unfoldable pub put : List ℤ → ℕ → ℕ → List ℤ → List ℤ
@@ -15,28 +16,28 @@ put lines k zero vs = lines
 put lines k (suc n) vs = set (put lines k n vs) (k + n) (getD vs n (pos 0))
 
 -- the t-th word of a band that starts at a line
-unfoldable pub bandWord : ℕ → ℕ → ℕ → List ℤ → Reader (List ℤ)
-bandWord book first t lines = do
-  vs ← tuple book
-  give (put lines (first + t * dim book) (dim book) vs)
+unfoldable pub bandWord : Book → ℕ → ℕ → List ℤ → Reader (List ℤ)
+bandWord b first t lines = do
+  vs ← tuple b
+  give (put lines (first + t * b .dim) (b .dim) vs)
 
--- the lines of a band, of which it has so many; with book 0 none is sent
-unfoldable pub band : ℕ → ℕ → ℕ → List ℤ → Reader (List ℤ)
-band book first width lines = pick (eqb book 0) (give lines) (counted 0 (width / dim book) (bandWord book first) lines)
+-- the lines of a band, of which it has so many; a silent book sends none
+unfoldable pub band : Book → ℕ → ℕ → List ℤ → Reader (List ℤ)
+band b first width lines = pick (isSilent b) (give lines) (counted 0 (width / b .dim) (bandWord b first) lines)
 
--- the same band of a window that has 128 lines
+-- a band of a book's number, in a window that has 128 lines
 abbrev pub windowBand : ℕ → ℕ → ℕ → ℕ → List ℤ → Reader (List ℤ)
-windowBand book first width v = band book (128 * v + first) width
+windowBand number first width v = band (bookOf number) (128 * v + first) width
 
--- the same band of the n windows from a window on
+-- a band of a book's number, in each of the n windows from a window on
 unfoldable pub windowsBand : ℕ → ℕ → ℕ → ℕ → ℕ → List ℤ → Reader (List ℤ)
-windowsBand book first width from n = counted from n (windowBand book first width)
+windowsBand number first width from n = counted from n (windowBand number first width)
 
 -- a band of a group of n windows, whose books start at a base
 unfoldable pub groupBand : List ℕ → List ℕ → ℕ → ℕ → ℕ → ℕ → List ℤ → Reader (List ℤ)
 groupBand edges books base from n b = windowsBand (getD books (base + b) 0) (firstLine edges b) (bandWidth edges b) from n
 
--- groups of so many windows each, of which the first starts at a window, with its books from a base on
+-- the lines of groups of so many windows each; the first group starts at a window, and its books at a base
 unfoldable pub groupLines : List ℕ → ℕ → List ℕ → List ℕ → ℕ → ℕ → List ℤ → Reader (List ℤ)
 groupLines edges maxSfb books [] base from lines = give lines
 groupLines edges maxSfb books (n ∷ ns) base from lines =

@@ -2,7 +2,8 @@
 ghost use mathlib.Core.Path.{_≡_};
 ghost use Prim.Native.Nat.{_-_, _≤_};
 ghost use lib.ListN.{take, drop};
-ghost use Rattle.channel_lines.specs.Bands.{allEdges, bands, bandCount};
+ghost use Rattle.channel_lines.specs.Bands.{bands, bandCount};
+ghost use Rattle.channel_lines.specs.InnerBands.{allEdges};
 
 // Indices 3 and 4, long; 3 and 4, short; 6 and 7, long; 6 and 7, short.
 const EDGES: [usize; 129] = [

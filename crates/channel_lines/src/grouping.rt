@@ -28,7 +28,10 @@ pub fn group_length(grouping: u8, from: usize) -> usize
 
 // The groups of eight short windows, or of one long one.
 pub fn groups_of(short: bool, grouping: u8) -> Groups
-    ensures { λ r. ⌜ (r .count ≡ length (groupsOf short grouping)) × (r .windows ≡ inEight (groupsOf short grouping)) × (1 ≤ r .count) × (r .count ≤ 8) ⌝ }
+    ensures { λ r. ⌜ (r .count ≡ length (groupsOf short grouping))
+        × (r .windows ≡ inEight (groupsOf short grouping))
+        × (1 ≤ r .count)
+        × (r .count ≤ 8) ⌝ }
 {
     let mut windows = [0u8; 8];
     if !short {

@@ -5,11 +5,12 @@ ghost use lib.ListN.{length};
 ghost use Rattle.bits.specs.Loop.{counted};
 ghost use Rattle.bits.specs.InnerAnswers.{endedAnswer};
 ghost use Rattle.tables.specs.Tables.{Tables};
-ghost use Rattle.channel_lines.specs.Bands.{Rising, top, most};
+ghost use Rattle.channel_lines.specs.InnerBands.{Rising, windowLines, mostBands};
+ghost use Rattle.channel_lines.specs.Books.{bookOf};
 ghost use Rattle.channel_lines.specs.Grouping.{groupsOf};
 ghost use Rattle.channel_lines.specs.Spectrum.{put, band, windowsBand, groupBand, groupLines};
+use crate::books::book_of;
 use crate::grouping::group_length;
-use crate::tuple::book_dim;
 use crate::tuple::read_tuple;
 use bits::Ended;
 
@@ -43,35 +44,36 @@ fn put_values(lines: &mut [i16; 1024], k: usize, n: usize, values: &[i16; 4])
     }
 }
 
-// The lines of a band of one window.
+// The lines of a band of one window, which has the book of a number.
 fn read_band(
     s: &[u8],
     at: usize,
     end: usize,
     codes: &[u32],
     lens: &[u8],
-    book: u8,
+    number: u8,
     first: usize,
     width: usize,
     lines: &mut [i16; 1024],
 ) -> Ended
     requires { ⌜ (end ≤ 8 * length (now s)) × Tables (now codes) (now lens) × (first + width ≤ 1024) ⌝ }
-    ensures { λ r. ⌜ endedAnswer r (now (lines .exit)) ≡ band book first width (now (lines .entry)) (now (s .entry)) at end ⌝ }
+    ensures { λ r. ⌜ endedAnswer r (now (lines .exit)) ≡ band (bookOf number) first width (now (lines .entry)) (now (s .entry)) at end ⌝ }
 {
-    if book == 0 {
+    let book = book_of(number);
+    let dim = book.dim;
+    if dim == 0 {
         return Ended::At(at);
     }
-    let d = book_dim(book);
-    let n = width / d;
+    let words = width / dim;
     let mut place = at;
     let mut t = 0;
-    while t < n {
+    while t < words {
         let mut values = [0i16; 4];
-        let r = read_tuple(s, place, end, codes, lens, book, &mut values);
-        let Ended::At(next) = r else {
-            return r;
+        let read = read_tuple(s, place, end, codes, lens, book, &mut values);
+        let Ended::At(next) = read else {
+            return read;
         };
-        put_values(lines, first + t * d, d, &values);
+        put_values(lines, first + t * dim, dim, &values);
         place = next;
         t += 1;
     }
@@ -85,7 +87,7 @@ fn read_windows(
     end: usize,
     codes: &[u32],
     lens: &[u8],
-    book: u8,
+    number: u8,
     first: usize,
     width: usize,
     from: usize,
@@ -93,24 +95,25 @@ fn read_windows(
     lines: &mut [i16; 1024],
 ) -> Ended
     requires { ⌜ (end ≤ 8 * length (now s)) × Tables (now codes) (now lens) × (128 * (from + n) + (first + width) ≤ 1152) ⌝ }
-    ensures { λ r. ⌜ endedAnswer r (now (lines .exit)) ≡ windowsBand book first width from n (now (lines .entry)) (now (s .entry)) at end ⌝ }
+    ensures { λ r. ⌜ endedAnswer r (now (lines .exit))
+        ≡ windowsBand number first width from n (now (lines .entry)) (now (s .entry)) at end ⌝ }
 {
     let mut place = at;
     let mut v = from;
     while v < from + n {
-        let r = read_band(
+        let read = read_band(
             s,
             place,
             end,
             codes,
             lens,
-            book,
+            number,
             128 * v + first,
             width,
             lines,
         );
-        let Ended::At(next) = r else {
-            return r;
+        let Ended::At(next) = read else {
+            return read;
         };
         place = next;
         v += 1;
@@ -131,15 +134,34 @@ fn read_group_band(
     b: usize,
     lines: &mut [i16; 1024],
 ) -> Ended
-    requires { ⌜ (end ≤ 8 * length (now s)) × Tables (now codes) (now lens) × Rising (now edges) (1152 - 128 * (group .from + group .windows)) × (suc b < length (now edges)) × (group .base + b < 120) × (group .from + group .windows ≤ 8) ⌝ }
-    ensures { λ r. ⌜ endedAnswer r (now (lines .exit)) ≡ groupBand (now (edges .entry)) (now (books .entry)) (group .base) (group .from) (group .windows) b (now (lines .entry)) (now (s .entry)) at end ⌝ }
+    requires { ⌜ (end ≤ 8 * length (now s))
+        × Tables (now codes) (now lens)
+        × Rising (now edges) (1152 - 128 * (group .from + group .windows))
+        × (suc b < length (now edges))
+        × (group .base + b < 120)
+        × (group .from + group .windows ≤ 8) ⌝ }
+    ensures { λ r. ⌜ endedAnswer r (now (lines .exit))
+        ≡ groupBand (now (edges .entry)) (now (books .entry)) (group .base) (group .from) (group .windows) b
+        (now (lines .entry)) (now (s .entry)) at end ⌝ }
 {
-    let book = books[group.base + b];
+    let number = books[group.base + b];
     let first = edges[b];
     let width = edges[b + 1] - first;
     let from = group.from;
     let n = group.windows;
-    read_windows(s, at, end, codes, lens, book, first, width, from, n, lines)
+    read_windows(
+        s,
+        at,
+        end,
+        codes,
+        lens,
+        number,
+        first,
+        width,
+        from,
+        n,
+        lines,
+    )
 }
 
 // The lines of a group of windows.
@@ -150,20 +172,27 @@ fn read_group(
     codes: &[u32],
     lens: &[u8],
     edges: &[usize],
-    sfbs: usize,
+    max_sfb: usize,
     books: &[u8; 120],
     group: Group,
     lines: &mut [i16; 1024],
 ) -> Ended
-    requires { ⌜ (end ≤ 8 * length (now s)) × Tables (now codes) (now lens) × Rising (now edges) (1152 - 128 * (group .from + group .windows)) × (sfbs < length (now edges)) × (group .base + sfbs ≤ 120) × (group .from + group .windows ≤ 8) ⌝ }
-    ensures { λ r. ⌜ endedAnswer r (now (lines .exit)) ≡ counted 0 sfbs (groupBand (now (edges .entry)) (now (books .entry)) (group .base) (group .from) (group .windows)) (now (lines .entry)) (now (s .entry)) at end ⌝ }
+    requires { ⌜ (end ≤ 8 * length (now s))
+        × Tables (now codes) (now lens)
+        × Rising (now edges) (1152 - 128 * (group .from + group .windows))
+        × («max_sfb» < length (now edges))
+        × (group .base + «max_sfb» ≤ 120)
+        × (group .from + group .windows ≤ 8) ⌝ }
+    ensures { λ r. ⌜ endedAnswer r (now (lines .exit))
+        ≡ counted 0 «max_sfb» (groupBand (now (edges .entry)) (now (books .entry)) (group .base) (group .from) (group .windows))
+        (now (lines .entry)) (now (s .entry)) at end ⌝ }
 {
     let mut place = at;
     let mut b = 0;
-    while b < sfbs {
-        let r = read_group_band(s, place, end, codes, lens, edges, books, group, b, lines);
-        let Ended::At(next) = r else {
-            return r;
+    while b < max_sfb {
+        let read = read_group_band(s, place, end, codes, lens, edges, books, group, b, lines);
+        let Ended::At(next) = read else {
+            return read;
         };
         place = next;
         b += 1;
@@ -180,17 +209,23 @@ pub fn read_lines(
     lens: &[u8],
     edges: &[usize],
     short: bool,
-    sfbs: usize,
+    max_sfb: usize,
     grouping: u8,
     books: &[u8; 120],
     lines: &mut [i16; 1024],
 ) -> Ended
-    requires { ⌜ (end ≤ 8 * length (now s)) × Tables (now codes) (now lens) × Rising (now edges) (top short) × (sfbs < length (now edges)) × (sfbs ≤ most short) ⌝ }
-    ensures { λ r. ⌜ endedAnswer r (now (lines .exit)) ≡ groupLines (now (edges .entry)) sfbs (now (books .entry)) (groupsOf short grouping) 0 0 (now (lines .entry)) (now (s .entry)) at end ⌝ }
+    requires { ⌜ (end ≤ 8 * length (now s))
+        × Tables (now codes) (now lens)
+        × Rising (now edges) (windowLines short)
+        × («max_sfb» < length (now edges))
+        × («max_sfb» ≤ mostBands short) ⌝ }
+    ensures { λ r. ⌜ endedAnswer r (now (lines .exit))
+        ≡ groupLines (now (edges .entry)) «max_sfb» (now (books .entry)) (groupsOf short grouping) 0 0
+        (now (lines .entry)) (now (s .entry)) at end ⌝ }
 {
     if !short {
         let only = group_at(0, 0, 1);
-        return read_group(s, at, end, codes, lens, edges, sfbs, books, only, lines);
+        return read_group(s, at, end, codes, lens, edges, max_sfb, books, only, lines);
     }
     let mut place = at;
     let mut base = 0;
@@ -198,12 +233,23 @@ pub fn read_lines(
     while from < 8 {
         let n = group_length(grouping, from);
         let group = group_at(base, from, n);
-        let r = read_group(s, place, end, codes, lens, edges, sfbs, books, group, lines);
-        let Ended::At(next) = r else {
-            return r;
+        let read = read_group(
+            s,
+            place,
+            end,
+            codes,
+            lens,
+            edges,
+            max_sfb,
+            books,
+            group,
+            lines,
+        );
+        let Ended::At(next) = read else {
+            return read;
         };
         place = next;
-        base += sfbs;
+        base += max_sfb;
         from += n;
     }
     Ended::At(place)

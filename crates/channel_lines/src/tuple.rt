@@ -6,17 +6,18 @@ ghost use lib.IntN.{pos};
 ghost use Rattle.bits.specs.Loop.{counted};
 ghost use Rattle.bits.specs.InnerAnswers.{fieldAnswer, endedAnswer};
 ghost use Rattle.tables.specs.Tables.{Tables};
-ghost use Rattle.channel_lines.specs.Tuple.{spectral, dim, base, offset, digit, signed, value, escaped, tuple};
+ghost use Rattle.channel_lines.specs.InnerBooks.{Spectral};
+ghost use Rattle.channel_lines.specs.Tuple.{spectralWord, digit, signed, value, escapeAt, escaped, tuple};
+use crate::books::Book;
 use bits::Ended;
 use bits::Field;
 
-// The entry of a book's word.
-fn read_entry(s: &[u8], at: usize, end: usize, codes: &[u32], lens: &[u8], book: u8) -> Field
-    requires { ⌜ (end ≤ 8 * length (now s)) × Tables (now codes) (now lens) ⌝ }
-    ensures { λ r. ⌜ fieldAnswer r ≡ spectral book (now (s .entry)) at end ⌝ }
+// The entry of a word of the spectral book of a number.
+fn read_entry(s: &[u8], at: usize, end: usize, codes: &[u32], lens: &[u8], number: u8) -> Field
+    requires { ⌜ (end ≤ 8 * length (now s)) × Tables (now codes) (now lens) × (1 ≤ number) × (number ≤ 11) ⌝ }
+    ensures { λ r. ⌜ fieldAnswer r ≡ spectralWord number (now (s .entry)) at end ⌝ }
 {
-    match book {
-        0 => tables::generated_readers::scale_factor_word(s, at, end, codes, lens),
+    match number {
         1 => tables::generated_readers::book_1_word(s, at, end, codes, lens),
         2 => tables::generated_readers::book_2_word(s, at, end, codes, lens),
         3 => tables::generated_readers::book_3_word(s, at, end, codes, lens),
@@ -31,65 +32,20 @@ fn read_entry(s: &[u8], at: usize, end: usize, codes: &[u32], lens: &[u8], book:
     }
 }
 
-// The values in a word of a book.
-pub fn book_dim(book: u8) -> usize
-    ensures { λ r. ⌜ r ≡ dim book ⌝ }
-{
-    if book <= 4 {
-        return 4;
-    }
-    2
-}
-
-// How many numbers a value of a book can be.
-fn book_base(book: u8) -> u32
-    ensures { λ r. ⌜ r ≡ base book ⌝ }
-{
-    if book <= 4 {
-        return 3;
-    }
-    if book <= 6 {
-        return 9;
-    }
-    if book <= 8 {
-        return 8;
-    }
-    if book <= 10 {
-        return 13;
-    }
-    17
-}
-
-// What the signed values of a book are offset by; 0 where values are unsigned.
-fn book_offset(book: u8) -> u32
-    ensures { λ r. ⌜ r ≡ offset book ⌝ }
-{
-    if book <= 2 {
-        return 1;
-    }
-    if book <= 4 {
-        return 0;
-    }
-    if book <= 6 {
-        return 4;
-    }
-    0
-}
-
 // The j-th number of an entry.
-fn entry_digit(book: u8, entry: u32, j: usize) -> u32
-    requires { ⌜ j < dim book ⌝ }
+fn entry_digit(book: Book, entry: u32, j: usize) -> u32
+    requires { ⌜ (j < book .dim) × Spectral book ⌝ }
     ensures { λ r. ⌜ r ≡ digit book entry j ⌝ }
 {
-    let b = book_base(book);
-    let d = book_dim(book);
-    let mut e = entry;
+    let base = book.base;
+    let dim = book.dim;
+    let mut rest = entry;
     let mut k = j + 1;
-    while k < d {
-        e = e / b;
+    while k < dim {
+        rest = rest / base;
         k += 1;
     }
-    e % b
+    rest % base
 }
 
 // A magnitude with a sign bit.
@@ -108,29 +64,29 @@ fn read_value(
     s: &[u8],
     at: usize,
     end: usize,
-    book: u8,
+    book: Book,
     entry: u32,
     j: usize,
     values: &mut [i16; 4],
 ) -> Ended
-    requires { ⌜ (end ≤ 8 * length (now s)) × (j < dim book) × (j < 4) ⌝ }
+    requires { ⌜ (end ≤ 8 * length (now s)) × (j < book .dim) × Spectral book ⌝ }
     ensures { λ r. ⌜ endedAnswer r (now (values .exit)) ≡ value book entry j (now (values .entry)) (now (s .entry)) at end ⌝ }
 {
-    let m = entry_digit(book, entry, j);
-    let o = book_offset(book);
-    if o != 0 {
-        values[j] = m as i16 - o as i16;
+    let digit = entry_digit(book, entry, j);
+    let offset = book.offset;
+    if offset != 0 {
+        values[j] = digit as i16 - offset as i16;
         return Ended::At(at);
     }
-    if m == 0 {
+    if digit == 0 {
         return Ended::At(at);
     }
-    let f = bits::read_field(s, at, end, 1);
-    let Field::Got(sign, next) = f else {
-        return bits::passed_on(f);
+    let sign_bit = bits::read_field(s, at, end, 1);
+    let Field::Got(sign, after_sign) = sign_bit else {
+        return bits::passed_on(sign_bit);
     };
-    values[j] = with_sign(m, sign);
-    Ended::At(next)
+    values[j] = with_sign(digit, sign);
+    Ended::At(after_sign)
 }
 
 // The values of a word, with their sign bits.
@@ -138,20 +94,21 @@ fn read_values(
     s: &[u8],
     at: usize,
     end: usize,
-    book: u8,
+    book: Book,
     entry: u32,
     values: &mut [i16; 4],
 ) -> Ended
-    requires { ⌜ end ≤ 8 * length (now s) ⌝ }
-    ensures { λ r. ⌜ endedAnswer r (now (values .exit)) ≡ counted 0 (dim book) (value book entry) (now (values .entry)) (now (s .entry)) at end ⌝ }
+    requires { ⌜ (end ≤ 8 * length (now s)) × Spectral book ⌝ }
+    ensures { λ r. ⌜ endedAnswer r (now (values .exit))
+        ≡ counted 0 (book .dim) (value book entry) (now (values .entry)) (now (s .entry)) at end ⌝ }
 {
-    let d = book_dim(book);
+    let dim = book.dim;
     let mut place = at;
     let mut j = 0;
-    while j < d {
-        let r = read_value(s, place, end, book, entry, j, values);
-        let Ended::At(next) = r else {
-            return r;
+    while j < dim {
+        let read = read_value(s, place, end, book, entry, j, values);
+        let Ended::At(next) = read else {
+            return read;
         };
         place = next;
         j += 1;
@@ -159,27 +116,37 @@ fn read_values(
     Ended::At(place)
 }
 
+// An escape, which is the magnitude of the j-th value, with a sign bit.
+fn read_escape_at(
+    s: &[u8],
+    at: usize,
+    end: usize,
+    sign: u32,
+    j: usize,
+    values: &mut [i16; 4],
+) -> Ended
+    requires { ⌜ (end ≤ 8 * length (now s)) × (j < 4) ⌝ }
+    ensures { λ r. ⌜ endedAnswer r (now (values .exit)) ≡ escapeAt sign j (now (values .entry)) (now (s .entry)) at end ⌝ }
+{
+    let escape = words::escape::read_escape(s, at, end);
+    let Field::Got(magnitude, after_escape) = escape else {
+        return bits::passed_on(escape);
+    };
+    values[j] = with_sign(magnitude, sign);
+    Ended::At(after_escape)
+}
+
 // The escape of the j-th value, if it is the flag.
 fn read_escaped(s: &[u8], at: usize, end: usize, j: usize, values: &mut [i16; 4]) -> Ended
     requires { ⌜ (end ≤ 8 * length (now s)) × (j < 4) ⌝ }
     ensures { λ r. ⌜ endedAnswer r (now (values .exit)) ≡ escaped j (now (values .entry)) (now (s .entry)) at end ⌝ }
 {
-    let v = values[j];
-    if v == 16 {
-        let f = words::escape::read_escape(s, at, end);
-        let Field::Got(m, next) = f else {
-            return bits::passed_on(f);
-        };
-        values[j] = with_sign(m, 0);
-        return Ended::At(next);
+    let value = values[j];
+    if value == 16 {
+        return read_escape_at(s, at, end, 0, j, values);
     }
-    if v == -16 {
-        let f = words::escape::read_escape(s, at, end);
-        let Field::Got(m, next) = f else {
-            return bits::passed_on(f);
-        };
-        values[j] = with_sign(m, 1);
-        return Ended::At(next);
+    if value == -16 {
+        return read_escape_at(s, at, end, 1, j, values);
     }
     Ended::At(at)
 }
@@ -192,9 +159,9 @@ fn read_escapes(s: &[u8], at: usize, end: usize, values: &mut [i16; 4]) -> Ended
     let mut place = at;
     let mut j = 0;
     while j < 2 {
-        let r = read_escaped(s, place, end, j, values);
-        let Ended::At(next) = r else {
-            return r;
+        let read = read_escaped(s, place, end, j, values);
+        let Ended::At(next) = read else {
+            return read;
         };
         place = next;
         j += 1;
@@ -202,29 +169,29 @@ fn read_escapes(s: &[u8], at: usize, end: usize, values: &mut [i16; 4]) -> Ended
     Ended::At(place)
 }
 
-// The values of a word of a book, into four places that are 0.
+// The values of a word of a spectral book, into four places that are 0.
 pub fn read_tuple(
     s: &[u8],
     at: usize,
     end: usize,
     codes: &[u32],
     lens: &[u8],
-    book: u8,
+    book: Book,
     values: &mut [i16; 4],
 ) -> Ended
-    requires { ⌜ (end ≤ 8 * length (now s)) × Tables (now codes) (now lens) × (now values ≡ replicate 4 (pos 0)) ⌝ }
+    requires { ⌜ (end ≤ 8 * length (now s)) × Tables (now codes) (now lens) × Spectral book × (now values ≡ replicate 4 (pos 0)) ⌝ }
     ensures { λ r. ⌜ endedAnswer r (now (values .exit)) ≡ tuple book (now (s .entry)) at end ⌝ }
 {
-    let f = read_entry(s, at, end, codes, lens, book);
-    let Field::Got(entry, a1) = f else {
-        return bits::passed_on(f);
+    let word = read_entry(s, at, end, codes, lens, book.number);
+    let Field::Got(entry, after_word) = word else {
+        return bits::passed_on(word);
     };
-    let r = read_values(s, a1, end, book, entry, values);
-    let Ended::At(a2) = r else {
-        return r;
+    let signed = read_values(s, after_word, end, book, entry, values);
+    let Ended::At(after_signs) = signed else {
+        return signed;
     };
-    if book == 11 {
-        return read_escapes(s, a2, end, values);
+    if book.number == 11 {
+        return read_escapes(s, after_signs, end, values);
     }
-    Ended::At(a2)
+    signed
 }

@@ -1,21 +1,18 @@
 -- What the code of the scale factors cites: a factor by the word at its place, and what is left of the loop.
 -- Assumes nothing.
 use Prim.Native.Nat.{ℕ, _+_, _-_, _<_, _≤_}
-use mathlib.Core.Path.{_≡_, refl, sym, _∙_, ap}
+use mathlib.Core.Path.{_≡_, refl}
 use mathlib.Core.List.{List}
 use native.Mathlib.Omega.{arith}
-use lib.ListN.{length, getD, set}
-use borrow.Author.Tests.{le-leb, lt-leb, eq-eqb, ne-eqb}
-use Rattle.bits.specs.Reader.{Answer, got, refused, Reader, give, _>>=_}
+use lib.ListN.{length}
+use Rattle.bits.specs.Reader.{got, refused, Reader, give, _>>=_}
 use Rattle.bits.specs.Loop.{counted}
-use Rattle.bits.specs.declared.Field.{Field}
 use Rattle.bits.proofs.LoopLaws.{counted-start, counted-more, counted-stop, counted-done}
 use Rattle.tables.specs.GeneratedWords.{allLens}
 use Rattle.tables.specs.Tables.{wordOf, lensOf}
 use Rattle.tables.specs.GeneratedNames.{scaleFactor}
 use Rattle.tables.proofs.Rules.{spelt-at}
-use Rattle.channel_side.specs.Factors.{Factors, factor, bandFactor, firstFactors}
-use Rattle.channel_side.specs.Answers.{factorAnswer}
+use Rattle.channel_side.specs.Factors.{Factors, bandFactor, firstFactors}
 
 factor-words : length (lensOf scaleFactor) ≡ 121
 unfolding allLens
@@ -25,35 +22,8 @@ factor-words = refl
 pub entry-below : (s : List ℕ) (at end e m : ℕ) → wordOf scaleFactor s at end ≡ got e m → e < 121
 entry-below s at end e m q = let w = spelt-at 0 .law s at end m e q in omega (arith, w .4 .1, factor-words)
 
--- the answer, by the variant that it is
-pub factored-is : (a : List ℕ) {f v : Field} {x : Answer Factors} → factorAnswer f a ≡ x → f ≡ v → x ≡ factorAnswer v a
-factored-is a e q = sym e ∙ ap (λ (y : Field). factorAnswer y a) q
-
-abbrev pub state : ℕ → List ℕ → Factors
+abbrev state : ℕ → List ℕ → Factors
 state last values = record { last = last; values = values }
-
-module _ (books : List ℕ) (i last : ℕ) (vs s : List ℕ) (at end : ℕ) where
-  pub factor-none : getD books i 0 ≡ 0 → bandFactor books i (state last vs) s at end ≡ got (state last vs) at
-  unfolding bandFactor
-  factor-none o = simp (eq-eqb _ _ o)
-
-  pub factor-cut : (r p : ℕ) → (getD books i 0 ≡ 0 → ⊥) → wordOf scaleFactor s at end ≡ refused r p → bandFactor books i (state last vs) s at end ≡ refused r p
-  unfolding bandFactor factor
-  factor-cut r p o e = simp (ne-eqb _ _ o, e)
-
-  pub factor-low : (v m : ℕ) → (getD books i 0 ≡ 0 → ⊥) → wordOf scaleFactor s at end ≡ got v m → last + v < 60 → bandFactor books i (state last vs) s at end ≡ refused 24 at
-  unfolding bandFactor factor
-  factor-low v m o e h = simp (ne-eqb _ _ o, e, lt-leb 60 (last + v) h)
-
-  pub factor-high : (v m : ℕ) → (getD books i 0 ≡ 0 → ⊥) → wordOf scaleFactor s at end ≡ got v m → 60 ≤ last + v → 315 < last + v
-      → bandFactor books i (state last vs) s at end ≡ refused 24 at
-  unfolding bandFactor factor
-  factor-high v m o e h g = simp (ne-eqb _ _ o, e, le-leb 60 (last + v) h, lt-leb (last + v) 315 g)
-
-  pub factor-got : (v m : ℕ) → (getD books i 0 ≡ 0 → ⊥) → wordOf scaleFactor s at end ≡ got v m → 60 ≤ last + v → last + v ≤ 315
-      → bandFactor books i (state last vs) s at end ≡ got (state (last + v - 60) (set vs i (last + v - 60))) m
-  unfolding bandFactor factor
-  factor-got v m o e h g = simp (ne-eqb _ _ o, e, le-leb 60 (last + v) h, le-leb (last + v) 315 g)
 
 -- what is left of the loop
 unfoldable pub rest : ℕ → ℕ → ℕ → List ℕ → List ℕ → Reader (List ℕ)
@@ -64,7 +34,8 @@ module _ (n last : ℕ) (books values s : List ℕ) (at end : ℕ) where
   unfolding firstFactors rest
   rest-start = rw (counted-start (bandFactor books) n (state last values) s at end)
 
-  pub rest-stop : (i r p : ℕ) → i < n → bandFactor books i (state last values) s at end ≡ refused r p → rest i n last books values s at end ≡ refused r p
+  pub rest-stop : (i r p : ℕ) → i < n → bandFactor books i (state last values) s at end ≡ refused r p
+      → rest i n last books values s at end ≡ refused r p
   unfolding rest
   rest-stop i r p h e = rw (counted-stop (bandFactor books) i n (state last values) s at end r p h e)
 

@@ -74,13 +74,10 @@ module _ (z : ℤ) (line place : ℕ) (lines : List ℤ) (at : ℕ) where
   unfolding changed
   changed-got h = rw (le-leb _ _ h)
 
--- so many pulses, in the lists of the code
-abbrev pub given : ℕ → List ℕ → List ℕ → List ℕ → Pulses
-given n lines amplitudes places = record { count = n; lines = lines; amplitudes = amplitudes; places = places }
-
 -- the k-th pulse, as the code applies it
 pub apply-is : {x : Answer (List ℤ)} (p : Pulses) (k : ℕ) (lines : List ℤ) (s : List ℕ) (at end : ℕ)
-    → x ≡ changed (pulsed (getD lines (getD (p .lines) k 0) (pos 0)) (getD (p .amplitudes) k 0)) (getD (p .lines) k 0) (getD (p .places) k 0) lines at
+    → x ≡ changed (pulsed (getD lines (getD (p .lines) k 0) (pos 0)) (getD (p .amplitudes) k 0)) (getD (p .lines) k 0)
+    (getD (p .places) k 0) lines at
     → applyPulse p k lines s at end ≡ x
 unfolding applyPulse
 apply-is p k lines s at end e = sym e

@@ -1,54 +1,89 @@
 -- What the code of the sections cites: an increment, and the sections of a group, by what the field at the place is.
 -- Assumes nothing.
-use Prim.Native.Nat.{ℕ, zero, suc, _+_, _*_, _-_, _%_, _<_, _≤_, _^_}
+use Prim.Native.Nat.{ℕ, suc, _+_, _*_, _-_, _%_, _<_, _≤_, _^_}
 use mathlib.Core.Path.{_≡_, refl, sym, _∙_, ap}
 use mathlib.Core.List.{List, _∷_}
-use mathlib.Core.Bool.{Bool, true, false, _&&_}
+use mathlib.Core.Bool.{Bool, true, false}
 use native.Mathlib.Omega.{arith}
 use native.Mathlib.Nat.{mod-eq-of-lt, one-mul}
 use lib.Pow.{pow-mono}
 use lib.ListN.{set}
 use lib.Dec.{eqb, ltb, leb}
-use borrow.Author.Tests.{ltb-true, leb-true, lt-ltb, le-ltb, le-leb, lt-leb, eq-eqb, ne-eqb}
-use Rattle.bits.specs.Reader.{got, refused, Reader, give, pick, tested, _>>=_}
+use borrow.Author.Tests.{leb-true, lt-ltb, le-ltb, le-leb, lt-leb, eq-eqb, ne-eqb}
+use Rattle.bits.specs.Reader.{got, refused, Reader, give, _>>=_}
 use Rattle.bits.specs.Field.{field}
-use Rattle.bits.specs.Loop.{counted}
-use Rattle.bits.proofs.Bools.{and-both}
-use Rattle.bits.proofs.Lawful.{never, split, tested-got, after-give}
+use Rattle.bits.specs.Loop.{while}
+use Rattle.bits.proofs.Lawful.{Lawful, tested-got, after-give, bind-lawful, give-lawful, expecting-lawful}
+use Rattle.bits.proofs.FieldLaws.{field-lawful}
+use Rattle.bits.proofs.WhileLaws.{Takes, field-takes, expecting-takes, bind-takes, while-lawful, while-more, while-stop, while-done}
 use Rattle.channel_lines.specs.Grouping.{groupsAfter, groupsOf}
-use Rattle.channel_side.specs.Sections.{increments, sectionLength, fill, section, nextSection, groupSections, groupBooks, widthOf}
+use Rattle.channel_side.specs.Sections.{Length, increment, sectionLength, sectionBook, fill}
+use Rattle.channel_side.specs.Sections.{Covered, section, groupSections, groupBooks, widthOf}
 
 -- one, shifted left
 pub shifted : (w : ℕ) → w ≤ 12 → 1 * 2 ^ w % 4294967296 ≡ 2 ^ w
 shifted w h = simp one-mul (mod-eq-of-lt (omega (arith, pow-mono {i = w} {j = 12} h)))
 
-module _ (k width room n : ℕ) (s : List ℕ) (at end : ℕ) where
-  pub length-refused : (r p : ℕ) → 0 < k → field width s at end ≡ refused r p → increments k width room n s at end ≡ refused r p
-  unfolding increments
-  length-refused r p h e = let q : k ≡ suc (k - 1) = omega arith in rw q (simp e)
+-- the rest of a section's length, of which so many bands are there
+abbrev going : ℕ → Length
+going n = record { bands = n; goesOn = true }
 
-  pub length-none : (v m : ℕ) → 0 < k → field width s at end ≡ got v m → n + v ≡ 0 → increments k width room n s at end ≡ refused 22 at
-  unfolding increments
-  length-none v m h e z = let q : k ≡ suc (k - 1) = omega arith in rw q (simp (e, le-ltb 0 (n + v) (omega arith)))
+unfoldable pub lengthFrom : ℕ → ℕ → ℕ → Reader ℕ
+lengthFrom width room n = while (λ x. x .goesOn) (increment width room) (going n) >>= λ x. give (x .bands)
 
-  pub length-past : (v m : ℕ) → 0 < k → field width s at end ≡ got v m → 0 < n + v → room < n + v → increments k width room n s at end ≡ refused 22 at
-  unfolding increments
-  length-past v m h e z g = let q : k ≡ suc (k - 1) = omega arith in rw q (simp (e, lt-ltb 0 (n + v) z, lt-leb (n + v) room g))
+increment-lawful : (width room : ℕ) (x : Length) → Lawful (increment width room x)
+unfolding increment
+increment-lawful width room x = bind-lawful _ _ (expecting-lawful 22 _ _ (field-lawful width)) (λ v. give-lawful _)
 
-  pub length-done : (v m : ℕ) → 0 < k → field width s at end ≡ got v m → 0 < n + v → n + v ≤ room → (v + 1 ≡ 2 ^ width → ⊥)
-      → increments k width room n s at end ≡ got (n + v) m
-  unfolding increments
-  length-done v m h e z g o =
-      let q : k ≡ suc (k - 1) = omega arith in
-      rw q (simp (e, lt-ltb 0 (n + v) z, le-leb (n + v) room g, ne-eqb (v + 1) (2 ^ width) o))
+increment-takes : (width room : ℕ) → 0 < width → (x : Length) → Takes (increment width room x)
+unfolding increment
+increment-takes width room h x = bind-takes _ _ (expecting-takes 22 _ _ (field-takes width h)) (λ v. give-lawful _)
 
-  pub length-more : (v m : ℕ) → 0 < k → field width s at end ≡ got v m → 0 < n + v → n + v ≤ room → v + 1 ≡ 2 ^ width
-      → increments k width room n s at end ≡ increments (k - 1) width room (n + v) s m end
-  unfolding increments
-  length-more v m h e z g o =
-      let q : k ≡ suc (k - 1) = omega arith in
-      ap (λ (j : ℕ). increments j width room n s at end) q
-      ∙ simp (e, lt-ltb 0 (n + v) z, le-leb (n + v) room g, eq-eqb (v + 1) (2 ^ width) o)
+pub length-lawful : (width room : ℕ) → 0 < width → Lawful (sectionLength width room)
+unfolding sectionLength
+length-lawful width room h =
+    bind-lawful _ _ (while-lawful _ _ (increment-takes width room h) (increment-lawful width room) (going 0)) (λ x. give-lawful _)
+
+module _ (width room n : ℕ) (s : List ℕ) (at end : ℕ) where
+  length-stop : {r p : ℕ} → increment width room (going n) s at end ≡ refused r p → lengthFrom width room n s at end ≡ refused r p
+  unfolding lengthFrom
+  length-stop e = rw (while-stop (λ x. x .goesOn) (increment width room) (going n) s at end _ _ refl e)
+
+  pub length-refused : {r p : ℕ} → field width s at end ≡ refused r p → lengthFrom width room n s at end ≡ refused r p
+  unfolding increment
+  length-refused e = length-stop (rw e)
+
+  pub length-none : {v m : ℕ} → field width s at end ≡ got v m → n + v ≡ 0 → lengthFrom width room n s at end ≡ refused 22 at
+  unfolding increment
+  length-none {v} e z = length-stop (rw (e, le-ltb 0 (n + v) (omega arith)))
+
+  module _ {v m : ℕ} (e : field width s at end ≡ got v m) (z : 0 < n + v) where
+    pub length-past : room < n + v → lengthFrom width room n s at end ≡ refused 22 at
+    unfolding increment
+    length-past g = length-stop (rw (e, lt-ltb 0 (n + v) z, lt-leb (n + v) room g))
+
+    abbrev after : Length
+    after = record { bands = n + v; goesOn = eqb (v + 1) (2 ^ width) }
+
+    module _ (h : 0 < width) (g : n + v ≤ room) where
+      taken : increment width room (going n) s at end ≡ got after m
+      unfolding increment
+      taken = rw (e, lt-ltb 0 (n + v) z, le-leb (n + v) room g)
+
+      on : lengthFrom width room n s at end
+          ≡ (while (λ x. x .goesOn) (increment width room) after >>= λ x. give (x .bands)) s m end
+      unfolding lengthFrom
+      on = rw (while-more (λ x. x .goesOn) (increment width room) (increment-takes width room h) (going n) _ s at end m refl taken)
+
+      pub length-done : (v + 1 ≡ 2 ^ width → ⊥) → lengthFrom width room n s at end ≡ got (n + v) m
+      length-done o =
+          on
+          ∙ rw (ne-eqb (v + 1) (2 ^ width) o)
+          (rw (while-done (λ x. x .goesOn) (increment width room) (record { bands = n + v; goesOn = false }) s m end refl))
+
+      pub length-more : v + 1 ≡ 2 ^ width → lengthFrom width room n s at end ≡ lengthFrom width room (n + v) s m end
+      unfolding lengthFrom
+      length-more o = on ∙ rw (eq-eqb (v + 1) (2 ^ width) o)
 
 pub fill-more : (xs : List ℕ) (i n v : ℕ) → 0 < n → fill xs i n v ≡ fill (set xs i v) (i + 1) (n - 1) v
 unfolding fill
@@ -60,78 +95,79 @@ pub fill-done : (xs : List ℕ) (i n v : ℕ) → n ≡ 0 → fill xs i n v ≡ 
 unfolding fill
 fill-done xs i n v h = rw h
 
--- a length that is read is not 0 and has room
-pub length-bounds : (k width room n : ℕ) (s : List ℕ) (at end v m : ℕ) → increments k width room n s at end ≡ got v m → (0 < v) × (v ≤ room)
-unfolding increments
-length-bounds zero width room n s at end v m e = never e
-length-bounds (suc k) width room n s at end v m e =
-    let w = split (tested (field width s at end) 22 (λ a. ltb 0 (n + a) && leb (n + a) room) at) (λ a. pick (eqb (a + 1) (2 ^ width)) (increments k width room (n + a)) (give (n + a))) s end m v e in
-    let t = tested-got (field width s at end) 22 (λ a. ltb 0 (n + a) && leb (n + a) room) at (w .1) (w .0) (w .2) in
-    go (w .0) (w .1) (ltb-true _ _ (and-both _ _ (t .1) .0)) (leb-true _ _ (and-both (ltb 0 (n + w .0)) _ (t .1) .1)) (length-bounds k width room (n + w .0) s (w .1) end v m) (eqb (w .0 + 1) (2 ^ width)) (w .3)
-  where
-    go : (a p : ℕ) → 0 < n + a → n + a ≤ room → (increments k width room (n + a) s p end ≡ got v m → (0 < v) × (v ≤ room)) → (t : Bool)
-        → pick {A = Reader ℕ} t (increments k width room (n + a)) (give (n + a)) s p end ≡ got v m → (0 < v) × (v ≤ room)
-    go a p z g ih true q = ih q
-    go a p z g ih false q = let y : n + a ≡ v = cc in (omega arith, omega arith)
+-- the book of a section is 11 at most
+pub book-most : (s : List ℕ) (at end v next : ℕ) → sectionBook s at end ≡ got v next → v ≤ 11
+unfolding sectionBook
+book-most s at end v next e = leb-true _ _ (tested-got (field 4 s at end) 23 (λ b. leb b 11) at next v e .1)
 
--- what is left of a group's sections, with so many bands covered
-unfoldable pub left : ℕ → ℕ → ℕ → ℕ → ℕ → ℕ → List ℕ → Reader (List ℕ)
-left i k width sfbs base count books = counted i k (nextSection width sfbs base) (record { count = count; books = books }) >>= λ x. give (x .books)
+-- the rest of a group's sections, with so many bands covered
+unfoldable pub sectionsFrom : ℕ → ℕ → ℕ → ℕ → List ℕ → Reader (List ℕ)
+sectionsFrom width maxSfb base count books =
+    while (λ x. ltb (x .count) maxSfb) (section width maxSfb base) (record { count = count; books = books }) >>= λ x. give (x .books)
 
-pub group-start : (width sfbs base : ℕ) (books s : List ℕ) (at end : ℕ) → groupSections width sfbs base books s at end ≡ left 0 sfbs width sfbs base 0 books s at end
-unfolding groupSections left
-group-start width sfbs base books s at end = refl
+module _ (width maxSfb base : ℕ) (h : 0 < width) where
+  section-lawful : (x : Covered) → Lawful (section width maxSfb base x)
+  unfolding section sectionBook
+  section-lawful x =
+      bind-lawful _ _ (expecting-lawful 23 _ _ (field-lawful 4)) λ book. bind-lawful _ _ (length-lawful width _ h) (λ n. give-lawful _)
 
-module _ (i k width sfbs base count : ℕ) (books s : List ℕ) (at end : ℕ) where
-  pub group-refused : (r p : ℕ) → 0 < k → count < sfbs → field 4 s at end ≡ refused r p → left i k width sfbs base count books s at end ≡ refused r p
-  unfolding left counted nextSection section
-  group-refused r p h g e = let q : k ≡ suc (k - 1) = omega arith in rw q (simp (lt-ltb count sfbs g, e))
+  section-takes : (x : Covered) → Takes (section width maxSfb base x)
+  unfolding section sectionBook
+  section-takes x =
+      bind-takes _ _ (expecting-takes 23 _ _ (field-takes 4 (omega arith))) λ book.
+      bind-lawful _ _ (length-lawful width _ h) (λ n. give-lawful _)
 
-  pub group-book : (b m : ℕ) → 0 < k → count < sfbs → field 4 s at end ≡ got b m → 11 < b → left i k width sfbs base count books s at end ≡ refused 23 at
-  unfolding left counted nextSection section
-  group-book b m h g e l = let q : k ≡ suc (k - 1) = omega arith in rw q (simp (lt-ltb count sfbs g, e, lt-leb b 11 l))
+  pub group-lawful : (books : List ℕ) → Lawful (groupSections width maxSfb base books)
+  unfolding groupSections
+  group-lawful books = bind-lawful _ _ (while-lawful _ _ section-takes section-lawful _) (λ x. give-lawful _)
 
-  pub group-length : (b m r p : ℕ) → 0 < k → count < sfbs → field 4 s at end ≡ got b m → b ≤ 11 → sectionLength width (sfbs - count) s m end ≡ refused r p
-      → left i k width sfbs base count books s at end ≡ refused r p
-  unfolding left counted nextSection section
-  group-length b m r p h g e l o = let q : k ≡ suc (k - 1) = omega arith in rw q (simp (lt-ltb count sfbs g, e, le-leb b 11 l, o))
+  pub sections-more : (count : ℕ) (books s : List ℕ) (at end : ℕ) {bands m : ℕ} {bs : List ℕ} → count < maxSfb
+      → section width maxSfb base (record { count = count; books = books }) s at end ≡ got (record { count = bands; books = bs }) m
+      → sectionsFrom width maxSfb base count books s at end ≡ sectionsFrom width maxSfb base bands bs s m end
+  unfolding sectionsFrom
+  sections-more count books s at end l e =
+      rw (while-more (λ x. ltb (x .count) maxSfb) (section width maxSfb base) section-takes _ _ s at end _ (lt-ltb count maxSfb l) e)
 
-  pub group-more : (b m n next : ℕ) → 0 < k → count < sfbs → field 4 s at end ≡ got b m → b ≤ 11 → sectionLength width (sfbs - count) s m end ≡ got n next
-      → left i k width sfbs base count books s at end ≡ left (i + 1) (k - 1) width sfbs base (count + n) (fill books (base + count) n b) s next end
-  unfolding left counted nextSection section
-  group-more b m n next h g e l o =
-      let q : k ≡ suc (k - 1) = omega arith in
-      ap (λ (j : ℕ). left i j width sfbs base count books s at end) q ∙ simp (lt-ltb count sfbs g, e, le-leb b 11 l, o)
+module _ (width maxSfb base count : ℕ) (books s : List ℕ) (at end : ℕ) where
+  pub sections-stop : {r p : ℕ} → count < maxSfb
+      → section width maxSfb base (record { count = count; books = books }) s at end ≡ refused r p
+      → sectionsFrom width maxSfb base count books s at end ≡ refused r p
+  unfolding sectionsFrom
+  sections-stop l e =
+      rw (while-stop (λ x. ltb (x .count) maxSfb) (section width maxSfb base) _ s at end _ _ (lt-ltb count maxSfb l) e)
 
-pub group-done : (i k width sfbs base count : ℕ) (books s : List ℕ) (at end : ℕ) → sfbs ≤ count → left i k width sfbs base count books s at end ≡ got books at
-unfolding left counted nextSection
-group-done i zero width sfbs base count books s at end g = refl
-group-done i (suc k) width sfbs base count books s at end g = simp (le-ltb count sfbs g) (group-done (i + 1) k width sfbs base count books s at end g)
+  pub sections-done : maxSfb ≤ count → sectionsFrom width maxSfb base count books s at end ≡ got books at
+  unfolding sectionsFrom
+  sections-done l =
+      let covered : Covered = record { count = count; books = books } in
+      rw (while-done (λ x. ltb (x .count) maxSfb) (section width maxSfb base) covered s at end (le-ltb count maxSfb l))
 
-pub section-bounds : (width room : ℕ) (s : List ℕ) (at end v m : ℕ) → sectionLength width room s at end ≡ got v m → (0 < v) × (v ≤ room)
-unfolding sectionLength
-section-bounds width room s at end v m e = length-bounds (suc room) width room 0 s at end v m e
-
-module _ (sfbs bits base from : ℕ) (books s : List ℕ) (at end : ℕ) where
-  pub books-stop : (n r p : ℕ) → groupsAfter (8 - from) bits ≡ n ∷ groupsAfter (8 - (from + n)) bits → groupSections 3 sfbs base books s at end ≡ refused r p
-      → groupBooks 3 sfbs (groupsAfter (8 - from) bits) base books s at end ≡ refused r p
+module _ (maxSfb bits base from : ℕ) (books s : List ℕ) (at end : ℕ) where
+  pub books-stop : (n r p : ℕ) → groupsAfter (8 - from) bits ≡ n ∷ groupsAfter (8 - (from + n)) bits
+      → groupSections 3 maxSfb base books s at end ≡ refused r p
+      → groupBooks 3 maxSfb (groupsAfter (8 - from) bits) base books s at end ≡ refused r p
   unfolding groupBooks
   books-stop n r p q e = rw (q, e)
 
-  pub books-more : (n m : ℕ) (bs : List ℕ) → groupsAfter (8 - from) bits ≡ n ∷ groupsAfter (8 - (from + n)) bits → groupSections 3 sfbs base books s at end ≡ got bs m
-      → groupBooks 3 sfbs (groupsAfter (8 - from) bits) base books s at end ≡ groupBooks 3 sfbs (groupsAfter (8 - (from + n)) bits) (base + sfbs) bs s m end
+  pub books-more : (n m : ℕ) (bs : List ℕ) → groupsAfter (8 - from) bits ≡ n ∷ groupsAfter (8 - (from + n)) bits
+      → groupSections 3 maxSfb base books s at end ≡ got bs m
+      → groupBooks 3 maxSfb (groupsAfter (8 - from) bits) base books s at end
+      ≡ groupBooks 3 maxSfb (groupsAfter (8 - (from + n)) bits) (base + maxSfb) bs s m end
   unfolding groupBooks
-  books-more n m bs q e = ap (λ (gs : List ℕ). groupBooks 3 sfbs gs base books s at end) q ∙ rw e
+  books-more n m bs q e = ap (λ (gs : List ℕ). groupBooks 3 maxSfb gs base books s at end) q ∙ rw e
 
-  pub books-done : 8 ≤ from → groupBooks 3 sfbs (groupsAfter (8 - from) bits) base books s at end ≡ got books at
+  pub books-done : 8 ≤ from → groupBooks 3 maxSfb (groupsAfter (8 - from) bits) base books s at end ≡ got books at
   unfolding groupBooks groupsAfter
   books-done h = let q : 8 - from ≡ 0 = omega arith in rw q
 
-module _ (short : Bool) (sfbs bits : ℕ) (books s : List ℕ) (at end : ℕ) where
-  pub books-short : short ≡ true → groupBooks (widthOf short) sfbs (groupsOf short bits) 0 books s at end ≡ groupBooks 3 sfbs (groupsAfter (8 - 0) bits) 0 books s at end
+module _ (short : Bool) (maxSfb bits : ℕ) (books s : List ℕ) (at end : ℕ) where
+  pub books-short : short ≡ true
+      → groupBooks (widthOf short) maxSfb (groupsOf short bits) 0 books s at end
+      ≡ groupBooks 3 maxSfb (groupsAfter (8 - 0) bits) 0 books s at end
   unfolding groupsOf widthOf
   books-short e = rw e
 
-  pub books-long : short ≡ false → groupSections 5 sfbs 0 books s at end ≡ groupBooks (widthOf short) sfbs (groupsOf short bits) 0 books s at end
+  pub books-long : short ≡ false
+      → groupSections 5 maxSfb 0 books s at end ≡ groupBooks (widthOf short) maxSfb (groupsOf short bits) 0 books s at end
   unfolding groupBooks groupsOf widthOf
-  books-long e = rw e (sym (after-give (groupSections 5 sfbs 0 books s at end) s end))
+  books-long e = rw e (sym (after-give (groupSections 5 maxSfb 0 books s at end) s end))

@@ -1,6 +1,7 @@
--- The reading laws of window information, sections, scale factors and pulses: their parts have them, and the ways of putting readers together keep them.
+-- The reading laws of window information, sections, scale factors and pulses: their parts have them, and the ways of putting readers
+-- together keep them.
 -- Assumes nothing.
-use Prim.Native.Nat.{ℕ, zero, suc}
+use Prim.Native.Nat.{ℕ, _<_}
 use mathlib.Core.Path.{_≡_, refl}
 use mathlib.Core.List.{List, [], _∷_}
 use mathlib.Core.Bool.{Bool, true, false}
@@ -15,12 +16,14 @@ use Rattle.bits.proofs.PlacesLaws.{here-lawful}
 use Rattle.tables.specs.Tables.{wordOf}
 use Rattle.tables.specs.GeneratedNames.{scaleFactor}
 use Rattle.tables.proofs.Rules.{lawful-at}
-use Rattle.channel_side.specs.Window.{Window, maxSfbOf, groupingOf, window}
-use Rattle.channel_side.specs.Sections.{Covered, increments, sectionLength, section, nextSection, groupSections, groupBooks, sections}
+use Rattle.channel_side.specs.Window.{Window, isShort, windowSequence, maxSfbOf, groupingOf, windowBands, window}
+use Rattle.channel_side.specs.Sections.{groupBooks, widthOf, sections}
+use Rattle.channel_side.proofs.SectionLaws.{group-lawful}
 use Rattle.channel_side.specs.Factors.{Factors, factor, bandFactor, firstFactors, scaleFactors}
 use Rattle.channel_side.specs.Pulses.{Laid, Pulses, pulse, eachPulse, startBand, pulseData, pulses, changed, applyPulse, applyPulses}
 
-ruleset laws = (bind-lawful, give-lawful, refuse-lawful, pick-lawful, expecting-lawful, field-lawful, zeroBit-lawful, counted-lawful, here-lawful)
+ruleset laws =
+    (bind-lawful, give-lawful, refuse-lawful, pick-lawful, expecting-lawful, field-lawful, zeroBit-lawful, counted-lawful, here-lawful)
 
 maxSfbOf-lawful : (index : ℕ) (short : Bool) → Lawful (maxSfbOf index short)
 unfolding maxSfbOf
@@ -31,30 +34,23 @@ unfolding groupingOf
 groupingOf-lawful short = search laws depth 8
 
 pub window-lawful : (index : ℕ) → Lawful (window index)
-unfolding window
+unfolding window windowSequence windowBands
 window-lawful index = search (laws, maxSfbOf-lawful, groupingOf-lawful) depth 12
 
-increments-lawful : (k width room n : ℕ) → Lawful (increments k width room n)
-unfolding increments
-increments-lawful zero width room n = refuse-lawful 22
-increments-lawful (suc k) width room n = let ih = increments-lawful k in search laws depth 8
-
-section-lawful : (width maxSfb base turn : ℕ) (x : Covered) → Lawful (nextSection width maxSfb base turn x)
-unfolding nextSection section sectionLength
-section-lawful width maxSfb base turn x = search (laws, increments-lawful) depth 8
-
-group-lawful : (width maxSfb base : ℕ) (books : List ℕ) → Lawful (groupSections width maxSfb base books)
-unfolding groupSections
-group-lawful width maxSfb base books = search (laws, section-lawful) depth 8
-
-groups-lawful : (width maxSfb : ℕ) (ns : List ℕ) (base : ℕ) (books : List ℕ) → Lawful (groupBooks width maxSfb ns base books)
+groups-lawful : (width maxSfb : ℕ) → 0 < width → (ns : List ℕ) (base : ℕ) (books : List ℕ) → Lawful (groupBooks width maxSfb ns base books)
 unfolding groupBooks
-groups-lawful width maxSfb [] base books = give-lawful books
-groups-lawful width maxSfb (n ∷ ns) base books = let ih = groups-lawful width maxSfb ns in search (laws, group-lawful) depth 8
+groups-lawful width maxSfb h [] base books = give-lawful books
+groups-lawful width maxSfb h (n ∷ ns) base books =
+    bind-lawful _ _ (group-lawful width maxSfb base h books) (groups-lawful width maxSfb h ns _)
+
+width-pos : (short : Bool) → 0 < widthOf short
+unfolding widthOf
+width-pos true = omega arith
+width-pos false = omega arith
 
 pub sections-lawful : (w : Window) → Lawful (sections w)
 unfolding sections
-sections-lawful w = groups-lawful _ _ _ _ _
+sections-lawful w = groups-lawful _ _ (width-pos (isShort w)) _ _ _
 
 word-lawful : Lawful (wordOf scaleFactor)
 word-lawful = lawful-at 0

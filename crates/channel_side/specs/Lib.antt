@@ -2,4 +2,4 @@ pub mod Window
 pub mod Sections
 pub mod Factors
 pub mod Pulses
-pub mod Answers
+pub mod InnerAnswers

@@ -12,14 +12,14 @@ use Rattle.bits.specs.Loop.{counted}
 use Rattle.bits.specs.Places.{here}
 use Rattle.channel_lines.specs.Bands.{bands, bandCount, firstLine}
 
--- how many there are, and in four places the line, the amplitude and the place of each
+-- how many pulses there are, and in four places the line, the amplitude and the place of each
 pub record Pulses : Type 0 where
   pub count : ℕ
   pub lines : List ℕ
   pub amplitudes : List ℕ
   pub places : List ℕ
 
--- pulses that are read: the line of the last, or that where the first offset counts from; and as above
+-- pulses so far: the line that the next offset counts from; and in four places the line, the amplitude and the place of each
 pub record Laid : Type 0 where
   pub last : ℕ
   pub lines : List ℕ
@@ -77,7 +77,8 @@ changed after line place lines at = pick (leb (natAbs after) 8191) (got (set lin
 -- the k-th pulse is applied; nothing is read
 unfoldable pub applyPulse : Pulses → ℕ → List ℤ → Reader (List ℤ)
 applyPulse x k lines s at end =
-    changed (pulsed (getD lines (getD (x .lines) k 0) (pos 0)) (getD (x .amplitudes) k 0)) (getD (x .lines) k 0) (getD (x .places) k 0) lines at
+    changed (pulsed (getD lines (getD (x .lines) k 0) (pos 0)) (getD (x .amplitudes) k 0)) (getD (x .lines) k 0) (getD (x .places) k 0)
+    lines at
 
 -- the pulses are applied in order, each on what the one before left
 unfoldable pub applyPulses : Pulses → List ℤ → Reader (List ℤ)

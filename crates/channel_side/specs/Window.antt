@@ -7,21 +7,24 @@ use Rattle.bits.specs.Reader.{Reader, give, pick, expecting, _>>=_}
 use Rattle.bits.specs.Field.{field, zeroBit}
 use Rattle.channel_lines.specs.Bands.{bandCount}
 use Rattle.channel_lines.specs.Grouping.{groupsOf}
-
--- grouping: the seven bits, 0 where windows are long
-pub record Window : Type 0 where
-  pub sequence : ℕ
-  pub shape : ℕ
-  pub maxSfb : ℕ
-  pub grouping : ℕ
+pub use Rattle.channel_side.specs.declared.window.Window.{Window}
 
 -- window sequence 2 is eight short windows
 abbrev pub isShort : Window → Bool
 isShort w = eqb (w .sequence) 2
 
--- the windows of each group
+abbrev pub maxSfb : Window → ℕ
+maxSfb w = w .«max_sfb»
+
+-- the windows of each group; the grouping bits are 0 where windows are long
 abbrev pub groups : Window → List ℕ
 groups w = groupsOf (isShort w) (w .grouping)
+
+-- a reserved bit, which is 0, or 13; then window_sequence
+unfoldable pub windowSequence : Reader ℕ
+windowSequence = do
+  reserved ← zeroBit 13
+  field 2
 
 -- max_sfb, in 4 bits for short windows, else 6; above the number of bands it is 21
 unfoldable pub maxSfbOf : ℕ → Bool → Reader ℕ
@@ -31,12 +34,16 @@ maxSfbOf index short = expecting 21 (λ m. leb m (bandCount index short)) (field
 unfoldable pub groupingOf : Bool → Reader ℕ
 groupingOf short = pick short (field 7) (zeroBit 20)
 
--- a reserved bit, which is 0, or 13; window sequence; window shape; max_sfb; then grouping or prediction
+-- max_sfb; then grouping or prediction
+unfoldable pub windowBands : ℕ → ℕ → ℕ → Reader Window
+windowBands index sequence shape = do
+  most ← maxSfbOf index (eqb sequence 2)
+  grouping ← groupingOf (eqb sequence 2)
+  give (record { sequence = sequence; shape = shape; «max_sfb» = most; grouping = grouping })
+
+-- window_sequence; window_shape; then max_sfb and what follows it
 unfoldable pub window : ℕ → Reader Window
 window index = do
-  reserved ← zeroBit 13
-  sequence ← field 2
+  sequence ← windowSequence
   shape ← field 1
-  maxSfb ← maxSfbOf index (eqb sequence 2)
-  grouping ← groupingOf (eqb sequence 2)
-  give (record { sequence = sequence; shape = shape; maxSfb = maxSfb; grouping = grouping })
+  windowBands index sequence shape

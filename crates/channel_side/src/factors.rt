@@ -4,7 +4,7 @@ ghost use Prim.Native.Nat.{_*_, _≤_, _<_};
 ghost use lib.ListN.{length};
 ghost use Rattle.bits.specs.InnerAnswers.{endedAnswer};
 ghost use Rattle.tables.specs.Tables.{Tables};
-ghost use Rattle.channel_side.specs.Answers.{factorAnswer, Small};
+ghost use Rattle.channel_side.specs.InnerAnswers.{factorAnswer, Small};
 ghost use Rattle.channel_side.specs.Factors.{bandFactor, firstFactors};
 use bits::Ended;
 use bits::Field;
@@ -22,14 +22,16 @@ fn read_factor(
     factors: &mut [u8; 120],
 ) -> Field
     requires { ⌜ (end ≤ 8 * length (now s)) × Tables (now codes) (now lens) × (i < 120) × (last ≤ 255) ⌝ }
-    ensures { λ r. ⌜ (factorAnswer r (now (factors .exit)) ≡ bandFactor (now (books .entry)) i (record { last = last; values = now (factors .entry) }) (now (s .entry)) at end) × Small r ⌝ }
+    ensures { λ r. ⌜ (factorAnswer r (now (factors .exit))
+        ≡ bandFactor (now (books .entry)) i (record { last = last; values = now (factors .entry) }) (now (s .entry)) at end)
+        × Small r ⌝ }
 {
     if books[i] == 0 {
         return Field::Got(last, at);
     }
-    let f = tables::generated_readers::scale_factor_word(s, at, end, codes, lens);
-    let Field::Got(entry, next) = f else {
-        return f;
+    let word = tables::generated_readers::scale_factor_word(s, at, end, codes, lens);
+    let Field::Got(entry, after_word) = word else {
+        return word;
     };
     let sum = last + entry;
     if sum < 60 {
@@ -39,7 +41,7 @@ fn read_factor(
         return Field::Refused(24, at);
     }
     factors[i] = (sum - 60) as u8;
-    Field::Got(sum - 60, next)
+    Field::Got(sum - 60, after_word)
 }
 
 // The scale factors of the first n bands, from a gain on.
@@ -55,17 +57,18 @@ pub fn read_factors(
     factors: &mut [u8; 120],
 ) -> Ended
     requires { ⌜ (end ≤ 8 * length (now s)) × Tables (now codes) (now lens) × (n ≤ 120) × (gain ≤ 255) ⌝ }
-    ensures { λ r. ⌜ endedAnswer r (now (factors .exit)) ≡ firstFactors n gain (now (books .entry)) (now (factors .entry)) (now (s .entry)) at end ⌝ }
+    ensures { λ r. ⌜ endedAnswer r (now (factors .exit))
+        ≡ firstFactors n gain (now (books .entry)) (now (factors .entry)) (now (s .entry)) at end ⌝ }
 {
     let mut last = gain;
     let mut place = at;
     let mut i = 0;
     while i < n {
-        let f = read_factor(s, place, end, codes, lens, books, i, last, factors);
-        let Field::Got(v, next) = f else {
-            return bits::passed_on(f);
+        let factor = read_factor(s, place, end, codes, lens, books, i, last, factors);
+        let Field::Got(value, next) = factor else {
+            return bits::passed_on(factor);
         };
-        last = v;
+        last = value;
         place = next;
         i += 1;
     }

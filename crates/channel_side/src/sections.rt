@@ -1,38 +1,47 @@
 // The sections: the book of each band.
 ghost use mathlib.Core.Path.{_≡_};
-ghost use Prim.Native.Nat.{_+_, _*_, _≤_};
+ghost use Prim.Native.Nat.{_+_, _*_, _≤_, _<_};
 ghost use lib.ListN.{length};
 ghost use Rattle.bits.specs.InnerAnswers.{fieldAnswer, endedAnswer};
-ghost use Rattle.channel_lines.specs.Bands.{most};
+ghost use Rattle.channel_lines.specs.InnerBands.{mostBands};
 ghost use Rattle.channel_lines.specs.Grouping.{groupsOf};
-ghost use Rattle.channel_side.specs.Sections.{sectionLength, fill, groupSections, groupBooks, widthOf};
+ghost use Rattle.channel_side.specs.InnerAnswers.{coveredAnswer, Fits, Further};
+ghost use Rattle.channel_side.specs.Sections.{sectionLength, sectionBook, fill, section, groupSections, groupBooks, widthOf};
 use bits::Ended;
 use bits::Field;
 
 // The length of a section that has room for so many bands.
 fn read_length(s: &[u8], at: usize, end: usize, width: usize, room: u32) -> Field
     requires { ⌜ (end ≤ 8 * length (now s)) × (1 ≤ width) × (width ≤ 5) × (room ≤ 63) ⌝ }
-    ensures { λ r. ⌜ fieldAnswer r ≡ sectionLength width room (now (s .entry)) at end ⌝ }
+    ensures { λ r. ⌜ (fieldAnswer r ≡ sectionLength width room (now (s .entry)) at end) × Fits room r ⌝ }
 {
-    let mut n: u32 = 0;
+    let mut bands: u32 = 0;
     let mut place = at;
     loop {
-        let f = bits::read_field(s, place, end, width);
-        let Field::Got(v, next) = f else {
-            return f;
+        let increment = bits::read_field(s, place, end, width);
+        let Field::Got(more, next) = increment else {
+            return increment;
         };
-        n += v;
-        if n == 0 {
+        bands += more;
+        if bands == 0 {
             return Field::Refused(22, place);
         }
-        if room < n {
+        if room < bands {
             return Field::Refused(22, place);
         }
-        if v + 1 != 1u32 << width {
-            return Field::Got(n, next);
+        if more + 1 != 1u32 << width {
+            return Field::Got(bands, next);
         }
         place = next;
     }
+}
+
+// The book of a section.
+fn read_book(s: &[u8], at: usize, end: usize) -> Field
+    requires { ⌜ end ≤ 8 * length (now s) ⌝ }
+    ensures { λ r. ⌜ fieldAnswer r ≡ sectionBook (now (s .entry)) at end ⌝ }
+{
+    bits::at_most(bits::read_field(s, at, end, 4), 11, 23, at)
 }
 
 // n copies of a book are put from a place on.
@@ -47,36 +56,62 @@ fn fill_books(books: &mut [u8; 120], from: usize, n: usize, book: u8)
     }
 }
 
+// A section of a group whose bands start at a place of the books, of which so many are covered: how many then are.
+fn read_section(
+    s: &[u8],
+    at: usize,
+    end: usize,
+    width: usize,
+    max_sfb: usize,
+    base: usize,
+    count: usize,
+    books: &mut [u8; 120],
+) -> Field
+    requires { ⌜ (end ≤ 8 * length (now s))
+        × (1 ≤ width)
+        × (width ≤ 5)
+        × («max_sfb» ≤ 63)
+        × (base + «max_sfb» ≤ 120)
+        × (count < «max_sfb») ⌝ }
+    ensures { λ r. ⌜ (coveredAnswer r (now (books .exit))
+        ≡ section width «max_sfb» base (record { count = count; books = now (books .entry) }) (now (s .entry)) at end)
+        × Further count «max_sfb» r ⌝ }
+{
+    let book_field = read_book(s, at, end);
+    let Field::Got(book, after_book) = book_field else {
+        return book_field;
+    };
+    let length_field = read_length(s, after_book, end, width, (max_sfb - count) as u32);
+    let Field::Got(bands, after_length) = length_field else {
+        return length_field;
+    };
+    fill_books(books, base + count, bands as usize, book as u8);
+    Field::Got(count as u32 + bands, after_length)
+}
+
 // The sections of one group, whose bands start at a place of the books.
 fn read_group(
     s: &[u8],
     at: usize,
     end: usize,
     width: usize,
-    sfbs: usize,
+    max_sfb: usize,
     base: usize,
     books: &mut [u8; 120],
 ) -> Ended
-    requires { ⌜ (end ≤ 8 * length (now s)) × (1 ≤ width) × (width ≤ 5) × (sfbs ≤ 63) × (base + sfbs ≤ 120) ⌝ }
-    ensures { λ r. ⌜ endedAnswer r (now (books .exit)) ≡ groupSections width sfbs base (now (books .entry)) (now (s .entry)) at end ⌝ }
+    requires { ⌜ (end ≤ 8 * length (now s)) × (1 ≤ width) × (width ≤ 5) × («max_sfb» ≤ 63) × (base + «max_sfb» ≤ 120) ⌝ }
+    ensures { λ r. ⌜ endedAnswer r (now (books .exit))
+        ≡ groupSections width «max_sfb» base (now (books .entry)) (now (s .entry)) at end ⌝ }
 {
     let mut count = 0;
     let mut place = at;
-    while count < sfbs {
-        let f = bits::read_field(s, place, end, 4);
-        let Field::Got(book, a1) = f else {
-            return bits::passed_on(f);
+    while count < max_sfb {
+        let covered = read_section(s, place, end, width, max_sfb, base, count, books);
+        let Field::Got(bands, next) = covered else {
+            return bits::passed_on(covered);
         };
-        if 11 < book {
-            return Ended::Refused(23, place);
-        }
-        let f = read_length(s, a1, end, width, (sfbs - count) as u32);
-        let Field::Got(n, a2) = f else {
-            return bits::passed_on(f);
-        };
-        fill_books(books, base + count, n as usize, book as u8);
-        count += n as usize;
-        place = a2;
+        count = bands as usize;
+        place = next;
     }
     Ended::At(place)
 }
@@ -87,27 +122,28 @@ pub fn read_books(
     at: usize,
     end: usize,
     short: bool,
-    sfbs: usize,
+    max_sfb: usize,
     grouping: u8,
     books: &mut [u8; 120],
 ) -> Ended
-    requires { ⌜ (end ≤ 8 * length (now s)) × (sfbs ≤ most short) ⌝ }
-    ensures { λ r. ⌜ endedAnswer r (now (books .exit)) ≡ groupBooks (widthOf short) sfbs (groupsOf short grouping) 0 (now (books .entry)) (now (s .entry)) at end ⌝ }
+    requires { ⌜ (end ≤ 8 * length (now s)) × («max_sfb» ≤ mostBands short) ⌝ }
+    ensures { λ r. ⌜ endedAnswer r (now (books .exit))
+        ≡ groupBooks (widthOf short) «max_sfb» (groupsOf short grouping) 0 (now (books .entry)) (now (s .entry)) at end ⌝ }
 {
     if !short {
-        return read_group(s, at, end, 5, sfbs, 0, books);
+        return read_group(s, at, end, 5, max_sfb, 0, books);
     }
     let mut place = at;
     let mut base = 0;
     let mut from = 0;
     while from < 8 {
         let n = channel_lines::grouping::group_length(grouping, from);
-        let r = read_group(s, place, end, 3, sfbs, base, books);
-        let Ended::At(next) = r else {
-            return r;
+        let read = read_group(s, place, end, 3, max_sfb, base, books);
+        let Ended::At(next) = read else {
+            return read;
         };
         place = next;
-        base += sfbs;
+        base += max_sfb;
         from += n;
     }
     Ended::At(place)

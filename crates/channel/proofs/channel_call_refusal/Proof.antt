@@ -1,63 +1,81 @@
-use mathlib.Core.Path.{refl}
-use mathlib.Core.Bool.{true, false}
-use borrow.Author.Tests.{ne-eqb}
-use Rattle.channel.proofs.PromiseLaws.{refusal-start, refusal-end, refusal-lines, refusal-factors, refusal-books, refusal-index}
+-- The tests come in the order of the numbers: the first that fails gives its own.
+use mathlib.Core.Path.{_≡_, sym, _∙_}
+use borrow.Author.Tests.{le-leb, lt-leb, ne-eqb}
+use Rattle.bits.specs.Reader.{pick}
+use Rattle.channel.specs.Promise.{known, channelCallRefusal}
 use Rattle.channel.proofs.channel_call_refusal.Statement.{statement}
 use Rattle.channel.proofs.channel_call_refusal.Tie as tie
 
+abbrev entry : tie.Else5 → tie.Start
+entry c = c .before .before .before .before .before
+
+-- past all other tests the index decides
+by-index : (c : tie.Else5)
+    → channelCallRefusal (entry c .args .size) (entry c .args .start) (entry c .args .end) (entry c .args .index) (entry c .args .lines)
+    (entry c .args .factors) (entry c .args .books)
+    ≡ pick (known (entry c .args .index)) 0 3
+unfolding channelCallRefusal
+by-index c =
+    rw (
+      le-leb _ _ (c .before .before .before .before .if1 .left),
+      le-leb _ _ (c .before .before .before .if2 .left),
+      le-leb _ _ (c .before .before .if3 .left),
+      le-leb _ _ (c .before .if4 .left),
+      le-leb _ _ (c .if5 .left),
+    )
+
 returns : tie.Need-returns
-returns c = let x = c .before .args in refusal-start (x .size) (x .start) (x .end) (x .index) (x .lines) (x .factors) (x .books) (c .if1 .taken)
+unfolding channelCallRefusal
+returns c = rw (lt-leb _ _ (c .if1 .taken))
 
 returns-2 : tie.Need-returns-2
-returns-2 c = let x = c .before .before .args in refusal-end (x .size) (x .start) (x .end) (x .index) (x .lines) (x .factors) (x .books) (c .before .if1 .left) (c .if2 .taken)
+unfolding channelCallRefusal
+returns-2 c = rw (le-leb _ _ (c .before .if1 .left), lt-leb _ _ (c .if2 .taken))
 
 returns-3 : tie.Need-returns-3
-returns-3 c = let x = c .before .before .before .args in refusal-lines (x .size) (x .start) (x .end) (x .index) (x .lines) (x .factors) (x .books) (c .before .before .if1 .left) (c .before .if2 .left) (c .if3 .taken)
+unfolding channelCallRefusal
+returns-3 c = rw (le-leb _ _ (c .before .before .if1 .left), le-leb _ _ (c .before .if2 .left), lt-leb _ _ (c .if3 .taken))
 
 returns-4 : tie.Need-returns-4
-returns-4 c = let x = c .before .before .before .before .args in refusal-factors (x .size) (x .start) (x .end) (x .index) (x .lines) (x .factors) (x .books) (c .before .before .before .if1 .left) (c .before .before .if2 .left) (c .before .if3 .left) (c .if4 .taken)
+unfolding channelCallRefusal
+returns-4 c =
+    rw (
+      le-leb _ _ (c .before .before .before .if1 .left),
+      le-leb _ _ (c .before .before .if2 .left),
+      le-leb _ _ (c .before .if3 .left),
+      lt-leb _ _ (c .if4 .taken),
+    )
 
 returns-5 : tie.Need-returns-5
-returns-5 c = let x = c .before .before .before .before .before .args in refusal-books (x .size) (x .start) (x .end) (x .index) (x .lines) (x .factors) (x .books) (c .before .before .before .before .if1 .left) (c .before .before .before .if2 .left) (c .before .before .if3 .left) (c .before .if4 .left) (c .if5 .taken)
+unfolding channelCallRefusal
+returns-5 c =
+    rw (
+      le-leb _ _ (c .before .before .before .before .if1 .left),
+      le-leb _ _ (c .before .before .before .if2 .left),
+      le-leb _ _ (c .before .before .if3 .left),
+      le-leb _ _ (c .before .if4 .left),
+      lt-leb _ _ (c .if5 .taken),
+    )
 
 returns-6 : tie.Need-returns-6
-returns-6 c =
-    let x = c .before .before .before .before .before .before .args in
-    refusal-index (x .size) (x .start) (x .end) (x .index) (x .lines) (x .factors) (x .books) (c .before .before .before .before .before .if1 .left) (c .before .before .before .before .if2 .left) (c .before .before .before .if3 .left) (c .before .before .if4 .left) (c .before .if5 .left) true (rw (c .match .keys1)) refl
+returns-6 c = sym (by-index (c .before) ∙ rw (c .match .keys1))
 
 returns-7 : tie.Need-returns-7
-returns-7 c =
-    let x = c .before .before .before .before .before .before .args in
-    refusal-index (x .size) (x .start) (x .end) (x .index) (x .lines) (x .factors) (x .books) (c .before .before .before .before .before .if1 .left) (c .before .before .before .before .if2 .left) (c .before .before .before .if3 .left) (c .before .before .if4 .left) (c .before .if5 .left) true (rw (c .match .keys2)) refl
+returns-7 c = sym (by-index (c .before) ∙ rw (c .match .keys2))
 
 returns-8 : tie.Need-returns-8
-returns-8 c =
-    let x = c .before .before .before .before .before .before .args in
-    refusal-index (x .size) (x .start) (x .end) (x .index) (x .lines) (x .factors) (x .books) (c .before .before .before .before .before .if1 .left) (c .before .before .before .before .if2 .left) (c .before .before .before .if3 .left) (c .before .before .if4 .left) (c .before .if5 .left) true (rw (c .match .keys3)) refl
+returns-8 c = sym (by-index (c .before) ∙ rw (c .match .keys3))
 
 returns-9 : tie.Need-returns-9
-returns-9 c =
-    let x = c .before .before .before .before .before .before .args in
-    refusal-index (x .size) (x .start) (x .end) (x .index) (x .lines) (x .factors) (x .books) (c .before .before .before .before .before .if1 .left) (c .before .before .before .before .if2 .left) (c .before .before .before .if3 .left) (c .before .before .if4 .left) (c .before .if5 .left) true (rw (c .match .keys4)) refl
+returns-9 c = sym (by-index (c .before) ∙ rw (c .match .keys4))
 
 returns-10 : tie.Need-returns-10
 returns-10 c =
-    let x = c .before .before .before .before .before .before .args in
-    let r = c .match .rest in
-    refusal-index (x .size) (x .start) (x .end) (x .index) (x .lines) (x .factors) (x .books) (c .before .before .before .before .before .if1 .left) (c .before .before .before .before .if2 .left) (c .before .before .before .if3 .left) (c .before .before .if4 .left) (c .before .if5 .left) false
-    (rw (ne-eqb _ _ (r .0 .0 .0 .1), ne-eqb _ _ (r .0 .0 .1), ne-eqb _ _ (r .0 .1), ne-eqb _ _ (r .1))) refl
+    let none = c .match .rest in
+    sym (by-index (c .before)
+    ∙ rw (ne-eqb _ 3 (none .0 .0 .0 .1), ne-eqb _ 4 (none .0 .0 .1), ne-eqb _ 6 (none .0 .1), ne-eqb _ 7 (none .1)))
 
 pub channel-call-refusal-spec : {M : Type 1} → statement M
 channel-call-refusal-spec =
     tie.close
-    (tie.spec
-    returns
-    returns-2
-    returns-3
-    returns-4
-    returns-5
-    returns-6
-    returns-7
-    returns-8
-    returns-9
-    returns-10)
+    (tie.spec returns returns-2 returns-3 returns-4 returns-5 returns-6 returns-7 returns-8 returns-9 returns-10)

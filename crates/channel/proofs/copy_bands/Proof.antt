@@ -6,15 +6,6 @@ use Rattle.bits.proofs.OverLaws.{over-front}
 use Rattle.channel.proofs.copy_bands.Statement.{statement}
 use Rattle.channel.proofs.copy_bands.Tie as tie
 
-slice-aggregate-put : tie.Need-slice-aggregate-put
-slice-aggregate-put c = search needs
-
-put-requires : tie.Need-put-requires
-put-requires c κs = search needs
-
-same-length : tie.Need-same-length
-same-length c = search needs
-
 returns : tie.Need-returns
 returns c =
     let a = c .before .before .before .before .before .before .args in
@@ -22,4 +13,4 @@ returns c =
     c .before .before .put .ensures ∙ over-front (a .out .now) (a .t2) 120 long
 
 pub copy-bands-spec : {M : Type 1} → statement M
-copy-bands-spec = tie.close (tie.spec slice-aggregate-put put-requires same-length returns)
+copy-bands-spec = tie.close (tie.spec (λ c. search needs) (λ c κs. search needs) (λ c. search needs) returns)

@@ -23,24 +23,6 @@ loop-holds c =
     let a = c .args in
     (omega arith, refl, paste-zero (a .out .now) 0 (a .t2))
 
-mul-out : tie.Need-mul-out Inv-loop μ-loop
-mul-out c = search needs
-
-array-copy-out-out : tie.Need-array-copy-out-out Inv-loop μ-loop
-array-copy-out-out c = search needs
-
-mul-t10 : tie.Need-mul-t10 Inv-loop μ-loop
-mul-t10 c = search needs
-
-slice-set-from-out : tie.Need-slice-set-from-out Inv-loop μ-loop
-slice-set-from-out c = search needs
-
-add-i : tie.Need-add-i Inv-loop μ-loop
-add-i c = search needs
-
-loop-less : tie.Need-loop-less Inv-loop μ-loop
-loop-less c = search needs
-
 loop-again : tie.Need-loop-again Inv-loop μ-loop
 loop-again c =
     let a = c .before .before .before in
@@ -48,9 +30,6 @@ loop-again c =
     let h : length (a .args .t2) ≡ 1024 = search needs in
     let next = paste-front (a .args .out .now) (a .args .t2) (l .i) (pos 0) (omega arith) (omega arith) in
     (omega arith, simp length-set (l .inv .1), rw (toZ-ofZ w16 _ (record { sfits = c .out .given }), l .inv .2) next)
-
-same-length : tie.Need-same-length Inv-loop μ-loop
-same-length c = search needs
 
 returns : tie.Need-returns Inv-loop μ-loop
 returns c =
@@ -63,16 +42,5 @@ returns c =
 pub copy-lines-spec : {M : Type 1} → statement M
 copy-lines-spec =
     tie.close
-    (tie.spec
-    Inv-loop
-    μ-loop
-    loop-holds
-    mul-out
-    array-copy-out-out
-    mul-t10
-    slice-set-from-out
-    add-i
-    loop-less
-    loop-again
-    same-length
-    returns)
+    (tie.spec Inv-loop μ-loop loop-holds (λ c. search needs) (λ c. search needs) (λ c. search needs)
+    (λ c. search needs) (λ c. search needs) (λ c. search needs) loop-again (λ c. search needs) returns)

@@ -1,5 +1,7 @@
+-- The numbers are the four lists, one after another.
 use mathlib.Core.Path.{refl}
-use Rattle.channel_lines.specs.Bands.{long34, short34, long67, short67, allEdges}
+use Rattle.channel_lines.specs.Bands.{long34, short34, long67, short67}
+use Rattle.channel_lines.specs.InnerBands.{allEdges}
 use Rattle.channel_lines.proofs.bands.edges.Statement.{statement}
 use Rattle.channel_lines.proofs.bands.edges.Tie as tie
 

@@ -1,10 +1,10 @@
+-- Each turn adds the group that starts at the next window, to those that are found.
 use Prim.Native.Nat.{ℕ, _*_, _-_, _≤_}
-use mathlib.Core.Path.{refl, sym, subst}
+use mathlib.Core.Path.{refl}
 use mathlib.Core.List.{List, [], _∷_, _++_}
 use native.Mathlib.Omega.{arith}
 use borrow.Author.Needs.{needs}
 use borrow.Author.Tests.{not-true, not-false}
-use lib.ListN.{replicate}
 use Rattle.channel_lines.specs.Grouping.{groupsAfter, groupsOf}
 use Rattle.channel_lines.proofs.GroupingLaws.{Found, found-none, found-more, found-all, groups-short, groups-long, groups-none}
 use Rattle.channel_lines.proofs.grouping.groups_of.Statement.{statement}
@@ -20,9 +20,6 @@ Inv-loop short grouping windows₀ count₀ from₀ windows count from =
 abbrev μ-loop : tie.MeasureT-loop
 μ-loop short grouping windows₀ count₀ from₀ windows count from = 8 - from
 
-array-write-windows : tie.Need-array-write-windows Inv-loop μ-loop
-array-write-windows c = search needs
-
 returns : tie.Need-returns Inv-loop μ-loop
 returns c =
     let x = c .before .args in
@@ -30,22 +27,10 @@ returns c =
     rw e (refl, refl, omega arith, omega arith)
 
 loop-holds : tie.Need-loop-holds Inv-loop μ-loop
-loop-holds c =
-    let x = c .before .args in
-    let e = groups-short (x .short) (x .grouping) (not-false _ (c .if1 .left)) in
-    (omega arith, omega arith, omega arith, ([], subst (λ (gs : List ℕ). Found gs [] (groupsAfter (8 - 0) (x .grouping)) (replicate 8 0) 0) (sym e) (found-none _)))
-
-group-length-requires : tie.Need-group-length-requires Inv-loop μ-loop
-group-length-requires c κs = search needs
+loop-holds c = (omega arith, omega arith, omega arith, ([], found-none (groups-short _ _ (not-false _ (c .if1 .left)))))
 
 cast-windows : tie.Need-cast-windows Inv-loop μ-loop
 cast-windows c = let g = c .group-length .ensures in omega arith
-
-array-write-windows-2 : tie.Need-array-write-windows-2 Inv-loop μ-loop
-array-write-windows-2 c = search needs
-
-add-count : tie.Need-add-count Inv-loop μ-loop
-add-count c = search needs
 
 add-from : tie.Need-add-from Inv-loop μ-loop
 add-from c = let g = c .group-length .ensures in omega arith
@@ -55,41 +40,17 @@ loop-less c = let g = c .group-length .ensures in omega arith
 
 loop-again : tie.Need-loop-again Inv-loop μ-loop
 loop-again c =
-    let l = c .before .before .loop in
-    let x = c .before .before .before .before .args in
+    let found = c .before .before .loop .inv .3 in
     let g = c .group-length .ensures in
-    let f = l .inv .3 .1 in (
-      omega arith,
-      omega arith,
-      omega arith,
-      (
-        l .inv .3 .0 ++ c .group-length .result ∷ [],
-        found-more _ _ _ _ _ _ (omega arith) (subst (λ (gs : List ℕ). Found (groupsOf (x .short) (x .grouping)) (l .inv .3 .0) gs (l .windows) (l .count)) (g .0) f),
-      ),
-    )
+    (omega arith, omega arith, omega arith, (found .0 ++ c .group-length .result ∷ [], found-more (omega arith) (g .0) (found .1)))
 
 returns-2 : tie.Need-returns-2 Inv-loop μ-loop
 returns-2 c =
-    let l = c .before .loop in
-    let x = c .before .before .before .args in
-    let f = l .inv .3 .1 in
-    let w = found-all _ _ _ _ (subst (λ (gs : List ℕ). Found (groupsOf (x .short) (x .grouping)) (l .inv .3 .0) gs (l .windows) (l .count)) (groups-none (l .from) (x .grouping) (c .loop-test .left)) f) in
-    (w .0, w .1, omega arith, omega arith)
+    let all = found-all (groups-none _ _ (c .loop-test .left)) (c .before .loop .inv .3 .1) in
+    (all .0, all .1, omega arith, omega arith)
 
 pub groups-of-spec : {M : Type 1} → statement M
 groups-of-spec =
     tie.close
-    (tie.spec
-    Inv-loop
-    μ-loop
-    array-write-windows
-    returns
-    loop-holds
-    group-length-requires
-    cast-windows
-    array-write-windows-2
-    add-count
-    add-from
-    loop-less
-    loop-again
-    returns-2)
+    (tie.spec Inv-loop μ-loop (λ c. search needs) returns loop-holds (λ c κs. search needs) cast-windows
+    (λ c. search needs) (λ c. search needs) add-from loop-less loop-again returns-2)

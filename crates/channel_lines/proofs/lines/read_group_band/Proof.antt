@@ -1,31 +1,11 @@
-use mathlib.Core.Path.{sym}
+-- The book, the first line and the width of the band are those of the tables.
 use native.Mathlib.Omega.{arith}
 use native.Mathlib.Numerals.{add-one}
-use Rattle.channel_lines.proofs.SpectrumLaws.{group-band}
+use Rattle.channel_lines.specs.Bands.{firstLine, bandWidth}
+use Rattle.channel_lines.specs.Spectrum.{groupBand}
 use borrow.Author.Needs.{needs}
 use Rattle.channel_lines.proofs.lines.read_group_band.Statement.{statement}
 use Rattle.channel_lines.proofs.lines.read_group_band.Tie as tie
-
-add-book : tie.Need-add-book
-add-book c = search needs
-
-element-copy-out-book : tie.Need-element-copy-out-book
-element-copy-out-book c = search needs
-
-mul-first : tie.Need-mul-first
-mul-first c = search needs
-
-shared-slice-read-first : tie.Need-shared-slice-read-first
-shared-slice-read-first c = search needs
-
-add-width : tie.Need-add-width
-add-width c = search needs
-
-mul-width : tie.Need-mul-width
-mul-width c = search needs
-
-shared-slice-read-width : tie.Need-shared-slice-read-width
-shared-slice-read-width c = search needs
 
 sub-width : tie.Need-sub-width
 sub-width c =
@@ -39,22 +19,11 @@ read-windows-requires c κs =
     (a .pre .0, a .pre .1, rw add-one (omega arith))
 
 returns : tie.Need-returns
-returns c =
-    let x = c .before .before .before .before .before .before .before .before .before .before .args in
-    let g = x .group in
-    sym (group-band (x .edges .now) (x .books .now) (g .base) (g .from) (g .windows) (x .b) (x .lines .now) (x .s .now) (x .at) (x .end) (sym (c .read-windows .ensures)))
+unfolding groupBand firstLine bandWidth
+returns c = rw add-one at (c .read-windows .ensures)
 
 pub read-group-band-spec : {M : Type 1} → statement M
 read-group-band-spec =
     tie.close
-    (tie.spec
-    add-book
-    element-copy-out-book
-    mul-first
-    shared-slice-read-first
-    add-width
-    mul-width
-    shared-slice-read-width
-    sub-width
-    read-windows-requires
-    returns)
+    (tie.spec (λ c. search needs) (λ c. search needs) (λ c. search needs) (λ c. search needs) (λ c. search needs)
+    (λ c. search needs) (λ c. search needs) sub-width read-windows-requires returns)

@@ -1,85 +1,52 @@
+-- The windows that are left are read into the lines that are there, one a turn.
 use Prim.Native.Nat.{_+_, _-_, _≤_}
 use mathlib.Core.Path.{_≡_, sym, _∙_}
 use native.Mathlib.Omega.{arith}
-use borrow.Author.Needs.{needs}
 use Rattle.bits.specs.Loop.{counted}
-use Rattle.channel_lines.specs.Spectrum.{windowBand, windowsBand}
 use Rattle.bits.proofs.LoopLaws.{counted-more, counted-stop, counted-done}
-use Rattle.channel_lines.proofs.SpectrumLaws.{windows-start}
 use Rattle.bits.proofs.Taken.{ended-is}
+use Rattle.channel_lines.specs.Spectrum.{windowBand, windowsBand}
+use Rattle.channel_lines.proofs.SpectrumLaws.{windows-start}
+use borrow.Author.Needs.{needs}
 use Rattle.channel_lines.proofs.lines.read_windows.Statement.{statement}
 use Rattle.channel_lines.proofs.lines.read_windows.Tie as tie
 
 abbrev Inv-loop : tie.InvT-loop
-Inv-loop s at end codes lens book first width from n lines₀ place₀ v₀ lines place v =
-    (from ≤ v) × (v ≤ from + n) × (windowsBand book first width from n lines₀ s at end ≡ counted v (from + n - v) (windowBand book first width) lines s place end)
+Inv-loop s at end codes lens number first width from n lines₀ place₀ v₀ lines place v =
+    (from ≤ v)
+    × (v ≤ from + n)
+    × (windowsBand number first width from n lines₀ s at end
+    ≡ counted v (from + n - v) (windowBand number first width) lines s place end)
 
 abbrev μ-loop : tie.MeasureT-loop
-μ-loop s at end codes lens book first width from n lines₀ place₀ v₀ lines place v = from + n - v
+μ-loop s at end codes lens number first width from n lines₀ place₀ v₀ lines place v = from + n - v
 
 loop-holds : tie.Need-loop-holds Inv-loop μ-loop
 loop-holds c = (omega arith, omega arith, windows-start _ _ _ _ _ _ _ _ _)
 
-add-loop : tie.Need-add-loop Inv-loop μ-loop
-add-loop c = search needs
-
-mul-read-band : tie.Need-mul-read-band Inv-loop μ-loop
-mul-read-band c = search needs
-
-add-read-band : tie.Need-add-read-band Inv-loop μ-loop
-add-read-band c = search needs
-
-read-band-requires : tie.Need-read-band-requires Inv-loop μ-loop
-read-band-requires c κs = search needs
-
-enum-known-r : tie.Need-enum-known-r Inv-loop μ-loop
-enum-known-r c = search needs
-
-enum-told : tie.Need-enum-told Inv-loop μ-loop
-enum-told c = search needs
-
 returns : tie.Need-returns Inv-loop μ-loop
 returns c =
-    let l = c .before .before .before .before .before .loop in
-    let x = c .before .before .before .before .before .before .before .before .before .args in
-    let e = ended-is _ (c .before .before .read-band .ensures) (c .enum-told .given .1) in
-    rw (c .enum-told .given .1) (sym (l .inv .2 ∙ counted-stop (windowBand (x .book) (x .first) (x .width)) (l .v) (x .from + x .n) (l .lines) (x .s .now) (l .place) (x .end) _ _ (omega arith) e))
-
-add-v : tie.Need-add-v Inv-loop μ-loop
-add-v c = search needs
-
-loop-less : tie.Need-loop-less Inv-loop μ-loop
-loop-less c = search needs
+    let told = c .enum-told .given .1 in
+    let at-band = c .before .before in
+    let l = at-band .before .before .before .loop in
+    let x = at-band .before .before .before .before .before .before .before .args in
+    let e = ended-is _ (at-band .read-band .ensures) told in
+    rw told (sym (l .inv .2 ∙ counted-stop (windowBand (x .number) (x .first) (x .width)) _ _ _ _ _ _ _ _ (omega arith) e))
 
 loop-again : tie.Need-loop-again Inv-loop μ-loop
 loop-again c =
-    let f = c .before in
-    let l = f .before .before .before .before .before .loop in
-    let x = f .before .before .before .before .before .before .before .before .before .args in
-    let e = ended-is _ (f .before .before .read-band .ensures) (f .r .given .1) in
-    (omega arith, omega arith, l .inv .2 ∙ counted-more (windowBand (x .book) (x .first) (x .width)) (l .v) (x .from + x .n) (l .lines) _ (x .s .now) (l .place) (x .end) _ (omega arith) e)
+    let at-band = c .before .before .before in
+    let l = at-band .before .before .before .loop in
+    let x = at-band .before .before .before .before .before .before .before .args in
+    let e = ended-is _ (at-band .read-band .ensures) (c .before .read .given .1) in
+    (omega arith, omega arith, l .inv .2 ∙ counted-more (windowBand (x .number) (x .first) (x .width)) _ _ _ _ _ _ _ _ (omega arith) e)
 
 returns-2 : tie.Need-returns-2 Inv-loop μ-loop
-returns-2 c =
-    let l = c .before .loop in
-    let x = c .before .before .before .before .before .args in
-    sym (l .inv .2 ∙ counted-done (windowBand (x .book) (x .first) (x .width)) (l .v) (x .from + x .n) (l .lines) (x .s .now) (l .place) (x .end) (omega arith))
+returns-2 c = sym (c .before .loop .inv .2 ∙ counted-done _ _ _ _ _ _ _ (omega arith))
 
 pub read-windows-spec : {M : Type 1} → statement M
 read-windows-spec =
     tie.close
-    (tie.spec
-    Inv-loop
-    μ-loop
-    loop-holds
-    add-loop
-    mul-read-band
-    add-read-band
-    read-band-requires
-    enum-known-r
-    enum-told
-    returns
-    add-v
-    loop-less
-    loop-again
-    returns-2)
+    (tie.spec Inv-loop μ-loop loop-holds (λ c. search needs) (λ c. search needs) (λ c. search needs)
+    (λ c κs. search needs) (λ c. search needs) (λ c. search needs) returns (λ c. search needs) (λ c. search needs)
+    loop-again returns-2)

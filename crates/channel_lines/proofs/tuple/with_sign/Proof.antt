@@ -1,3 +1,4 @@
+-- A magnitude of at most 8191 fits with either sign.
 use Prim.Native.Nat.{_<_, _^_}
 use mathlib.Core.Path.{_∙_}
 use native.Mathlib.Omega.{arith}
@@ -11,9 +12,6 @@ use borrow.Author.Needs.{needs}
 use Rattle.channel_lines.proofs.tuple.with_sign.Statement.{statement}
 use Rattle.channel_lines.proofs.tuple.with_sign.Tie as tie
 
-cast-result : tie.Need-cast-result
-cast-result c = search needs
-
 sub-result : tie.Need-sub-result
 sub-result c =
     let h : c .before .args .m < 2 ^ 15 = omega arith in
@@ -25,9 +23,6 @@ returns c =
     let h : c .before .args .m < 2 ^ 15 = omega arith in
     toZ-ofZ w16 _ (sub-result c) ∙ rw (toZ-pos w16 (c .before .args .m) h, eq-eqb _ _ (c .if1 .taken)) (+ℤ-idl _)
 
-cast-result-2 : tie.Need-cast-result-2
-cast-result-2 c = search needs
-
 returns-2 : tie.Need-returns-2
 unfolding signed
 returns-2 c =
@@ -35,4 +30,4 @@ returns-2 c =
     rw (toZ-pos w16 (c .before .args .m) h, ne-eqb _ _ (c .if1 .left))
 
 pub with-sign-spec : {M : Type 1} → statement M
-with-sign-spec = tie.close (tie.spec cast-result sub-result returns cast-result-2 returns-2)
+with-sign-spec = tie.close (tie.spec (λ c. search needs) sub-result returns (λ c. search needs) returns-2)

@@ -1,9 +1,13 @@
+-- The factors that are left are read from the last one and those that are there, one a turn.
 use Prim.Native.Nat.{_-_, _≤_}
 use mathlib.Core.Path.{_≡_, sym, _∙_}
 use native.Mathlib.Omega.{arith}
-use borrow.Author.Needs.{needs}
+use Rattle.bits.proofs.Taken.{passed}
 use Rattle.channel_side.specs.Factors.{firstFactors}
-use Rattle.channel_side.proofs.FactorLaws.{factored-is, rest, rest-start, rest-stop, rest-more, rest-done}
+use Rattle.channel_side.specs.InnerAnswers.{factorAnswer}
+use Rattle.channel_side.proofs.ToldLaws.{told-is}
+use Rattle.channel_side.proofs.FactorLaws.{rest, rest-start, rest-stop, rest-more, rest-done}
+use borrow.Author.Needs.{needs}
 use Rattle.channel_side.proofs.factors.read_factors.Statement.{statement}
 use Rattle.channel_side.proofs.factors.read_factors.Tie as tie
 
@@ -17,60 +21,27 @@ abbrev μ-loop : tie.MeasureT-loop
 loop-holds : tie.Need-loop-holds Inv-loop μ-loop
 loop-holds c = (omega arith, omega arith, rest-start _ _ _ _ _ _ _)
 
-read-factor-requires : tie.Need-read-factor-requires Inv-loop μ-loop
-read-factor-requires c κs = search needs
-
-enum-known-f : tie.Need-enum-known-f Inv-loop μ-loop
-enum-known-f c = search needs
-
-enum-told : tie.Need-enum-told Inv-loop μ-loop
-enum-told c = search needs
-
-passed-on-requires : tie.Need-passed-on-requires Inv-loop μ-loop
-passed-on-requires c κs = search needs
-
 returns : tie.Need-returns Inv-loop μ-loop
 returns c =
-    let l = c .before .before .before .before .before .before .loop in
-    let x = c .before .before .before .before .before .before .before .before .before .before .args in
-    let e = factored-is _ (c .before .before .before .read-factor .ensures .0) (c .before .enum-told .given .1) in
-    simp (c .passed-on .ensures, c .before .enum-told .given .1) (sym (l .inv .2 ∙ rest-stop (x .n) (l .last) (x .books .now) (l .factors) (x .s .now) (l .place) (x .end) (l .i) _ _ (omega arith) e))
-
-add-i : tie.Need-add-i Inv-loop μ-loop
-add-i c = search needs
-
-loop-less : tie.Need-loop-less Inv-loop μ-loop
-loop-less c = search needs
+    let told = c .before .enum-told .given .1 in
+    let at-factor = c .before .before .before in
+    let l = at-factor .before .before .before .loop in
+    let e = told-is factorAnswer _ (at-factor .read-factor .ensures .0) told in
+    passed _ (c .passed-on .ensures) told ∙ sym (l .inv .2 ∙ rest-stop _ _ _ _ _ _ _ _ _ _ (omega arith) e)
 
 loop-again : tie.Need-loop-again Inv-loop μ-loop
 loop-again c =
-    let l = c .before .before .before .before .before .before .loop in
-    let x = c .before .before .before .before .before .before .before .before .before .before .args in
-    let e = factored-is _ (c .before .before .before .read-factor .ensures .0) (c .before .f .given .1) in (
-      omega arith,
-      rw (c .before .f .given .1) at (c .before .before .before .read-factor .ensures .1),
-      l .inv .2 ∙ rest-more (x .n) (l .last) (x .books .now) (l .factors) (x .s .now) (l .place) (x .end) (l .i) _ _ _ (omega arith) e,
-    )
+    let at-factor = c .before .before .before in
+    let l = at-factor .before .before .before .loop in
+    let told = c .before .factor .given .1 in
+    let e = told-is factorAnswer _ (at-factor .read-factor .ensures .0) told in
+    (omega arith, rw told at (at-factor .read-factor .ensures .1), l .inv .2 ∙ rest-more _ _ _ _ _ _ _ _ _ _ _ (omega arith) e)
 
 returns-2 : tie.Need-returns-2 Inv-loop μ-loop
-returns-2 c =
-    let l = c .before .loop in
-    let x = c .before .before .before .before .before .args in
-    sym (l .inv .2 ∙ rest-done (x .n) (l .last) (x .books .now) (l .factors) (x .s .now) (l .place) (x .end) (l .i) (c .loop-test .left))
+returns-2 c = sym (c .before .loop .inv .2 ∙ rest-done _ _ _ _ _ _ _ _ (c .loop-test .left))
 
 pub read-factors-spec : {M : Type 1} → statement M
 read-factors-spec =
     tie.close
-    (tie.spec
-    Inv-loop
-    μ-loop
-    loop-holds
-    read-factor-requires
-    enum-known-f
-    enum-told
-    passed-on-requires
-    returns
-    add-i
-    loop-less
-    loop-again
-    returns-2)
+    (tie.spec Inv-loop μ-loop loop-holds (λ c κs. search needs) (λ c. search needs) (λ c. search needs)
+    (λ c κs. search needs) returns (λ c. search needs) (λ c. search needs) loop-again returns-2)

@@ -1,77 +1,63 @@
+-- The two tests of the code are one on the magnitude.
+use Prim.Native.Nat.{_≤_}
 use mathlib.Core.Path.{_≡_, _∙_, ap}
-use lib.IntN.{ℤ, pos}
+use lib.IntN.{ℤ, pos, natAbs}
 use lib.ListN.{getD}
-use Rattle.channel_side.specs.Pulses.{pulsed}
 use native.Mathlib.Omega.{arith}
 use mir.Syntax.{w16, w32}
 use mir.ValLaws.{toZ-ofZ}
 use Rattle.bits.proofs.Signed.{fits}
+use Rattle.channel_side.specs.Pulses.{pulsed}
 use Rattle.channel_side.proofs.LineLaws.{in-range, changed-low, changed-high, changed-got}
 use borrow.Author.Needs.{needs}
 use Rattle.channel_side.proofs.pulses.apply_pulse.Statement.{statement}
 use Rattle.channel_side.proofs.pulses.apply_pulse.Tie as tie
 
-mul-pulsed-line : tie.Need-mul-pulsed-line
-mul-pulsed-line c = search needs
+abbrev entry : tie.After-pulsed-line → tie.Start
+entry c = c .before .before
 
-element-copy-out-pulsed-line : tie.Need-element-copy-out-pulsed-line
-element-copy-out-pulsed-line c = search needs
+-- the line after the pulse
+after : (c : tie.After-pulsed-line)
+    → c .pulsed-line .result ≡ pulsed (getD (entry c .args .lines .now) (entry c .args .line) (pos 0)) (entry c .args .amplitude)
+after c =
+    let whole = toZ-ofZ w16 _ (record { sfits = c .before .pulsed-line-arg .given }) in
+    c .pulsed-line .ensures ∙ ap (λ (z : ℤ). pulsed z (entry c .args .amplitude)) whole
 
-pulsed-line-requires : tie.Need-pulsed-line-requires
-pulsed-line-requires c κs = search needs
+-- it is in range past both tests
+small : (c : tie.Else2) → natAbs (c .before .before .pulsed-line .result) ≤ 8191
+small c =
+    let p = c .before .before .pulsed-line in
+    let whole = toZ-ofZ w32 (p .result) (record { sfits = p .ok }) in
+    in-range (p .result) (rw whole at (c .before .if1 .left)) (rw whole at (c .if2 .left))
 
 returns : tie.Need-returns
 returns c =
-    let x = c .before .before .before .args in
     let p = c .before .pulsed-line in
-    let v = getD (x .lines .now) (x .line) (pos 0) in
-    let g = toZ-ofZ w16 v (record { sfits = c .before .before .pulsed-line-arg .given }) in
-    let q : p .result ≡ pulsed v (x .amplitude) = p .ensures ∙ ap (λ (z : ℤ). pulsed z (x .amplitude)) g in
-    changed-low _ (x .line) (x .place) (x .lines .now) (x .at) (rw (toZ-ofZ w32 _ (record { sfits = p .ok }), q) at (c .if1 .taken))
+    changed-low _ _ _ _ _ (rw (toZ-ofZ w32 _ (record { sfits = p .ok }), after (c .before)) at (c .if1 .taken))
 
 returns-2 : tie.Need-returns-2
 returns-2 c =
-    let x = c .before .before .before .before .args in
     let p = c .before .before .pulsed-line in
-    let v = getD (x .lines .now) (x .line) (pos 0) in
-    let g = toZ-ofZ w16 v (record { sfits = c .before .before .before .pulsed-line-arg .given }) in
-    let q : p .result ≡ pulsed v (x .amplitude) = p .ensures ∙ ap (λ (z : ℤ). pulsed z (x .amplitude)) g in
-    changed-high _ (x .line) (x .place) (x .lines .now) (x .at) (rw (toZ-ofZ w32 _ (record { sfits = p .ok }), q) at (c .if2 .taken))
+    changed-high _ _ _ _ _ (rw (toZ-ofZ w32 _ (record { sfits = p .ok }), after (c .before .before)) at (c .if2 .taken))
 
 cast-lines : tie.Need-cast-lines
 cast-lines c =
     let p = c .before .before .pulsed-line in
-    let f = toZ-ofZ w32 (p .result) (record { sfits = p .ok }) in
-    let b = in-range (p .result) (rw f at (c .before .if1 .left)) (rw f at (c .if2 .left)) in
-    rw f (fits 8191 b (omega arith))
-
-mul-t7 : tie.Need-mul-t7
-mul-t7 c = search needs
-
-element-set-from-lines : tie.Need-element-set-from-lines
-element-set-from-lines c = search needs
+    rw (toZ-ofZ w32 (p .result) (record { sfits = p .ok })) (fits 8191 (small c) (omega arith))
 
 returns-3 : tie.Need-returns-3
 returns-3 c =
-    let x = c .before .before .before .before .args in
     let p = c .before .before .pulsed-line in
-    let v = getD (x .lines .now) (x .line) (pos 0) in
-    let g = toZ-ofZ w16 v (record { sfits = c .before .before .before .pulsed-line-arg .given }) in
-    let q : p .result ≡ pulsed v (x .amplitude) = p .ensures ∙ ap (λ (z : ℤ). pulsed z (x .amplitude)) g in
-    let f = toZ-ofZ w32 (p .result) (record { sfits = p .ok }) in
-    let b = in-range (p .result) (rw f at (c .before .if1 .left)) (rw f at (c .if2 .left)) in
-    rw (f, toZ-ofZ w16 (p .result) (fits 8191 b (omega arith)), q) (changed-got _ (x .line) (x .place) (x .lines .now) (x .at) (rw q at b))
+    let q = after (c .before .before) in
+    rw (
+      toZ-ofZ w32 (p .result) (record { sfits = p .ok }),
+      toZ-ofZ w16 (p .result) (fits 8191 (small c) (omega arith)),
+      q,
+    )
+    (changed-got _ _ _ _ _ (rw q at (small c)))
 
 pub apply-pulse-spec : {M : Type 1} → statement M
 apply-pulse-spec =
     tie.close
-    (tie.spec
-    mul-pulsed-line
-    element-copy-out-pulsed-line
-    pulsed-line-requires
-    returns
-    returns-2
-    cast-lines
-    mul-t7
-    element-set-from-lines
-    returns-3)
+    (tie.spec (λ c. search needs) (λ c. search needs) (λ c κs. search needs) returns returns-2 cast-lines
+    (λ c. search needs) (λ c. search needs) returns-3)

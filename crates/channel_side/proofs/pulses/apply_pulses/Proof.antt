@@ -1,111 +1,62 @@
+-- The pulses that are left are applied to the lines that are there, one a turn.
 use Prim.Native.Nat.{ℕ, _-_, _≤_}
 use mathlib.Core.Path.{_≡_, sym, _∙_}
 use mathlib.Core.List.{List}
 use native.Mathlib.Omega.{arith}
-use borrow.Author.Needs.{needs}
-use Rattle.bits.specs.Loop.{counted}
+use Rattle.bits.specs.Loop as loop
 use Rattle.bits.proofs.LoopLaws.{counted-more, counted-stop, counted-done}
 use Rattle.bits.proofs.Taken.{ended-is}
+use Rattle.channel_side.specs.InnerAnswers.{counted}
 use Rattle.channel_side.specs.Pulses.{applyPulse, applyPulses}
-use Rattle.channel_side.proofs.LineLaws.{given, apply-is, apply-start}
+use Rattle.channel_side.proofs.LineLaws.{apply-is, apply-start}
+use borrow.Author.Needs.{needs}
 use Rattle.channel_side.proofs.pulses.apply_pulses.Statement.{statement}
 use Rattle.channel_side.proofs.pulses.apply_pulses.Tie as tie
 
 abbrev Inv-loop : tie.InvT-loop
 Inv-loop at n targets amplitudes places lines₀ place₀ k₀ lines place k =
     (k ≤ n)
-    × ((s : List ℕ) (end : ℕ) → applyPulses (given n targets amplitudes places) lines₀ s at end
-    ≡ counted k (n - k) (applyPulse (given n targets amplitudes places)) lines s place end)
+    × ((s : List ℕ) (end : ℕ) → applyPulses (counted n targets amplitudes places) lines₀ s at end
+    ≡ loop.counted k (n - k) (applyPulse (counted n targets amplitudes places)) lines s place end)
 
 abbrev μ-loop : tie.MeasureT-loop
 μ-loop at n targets amplitudes places lines₀ place₀ k₀ lines place k = n - k
 
 loop-holds : tie.Need-loop-holds Inv-loop μ-loop
-loop-holds c =
-    let x = c .args in
-    (omega arith, λ s end. apply-start (given (x .n) (x .targets .now) (x .amplitudes .now) (x .places .now)) (x .lines .now) s (x .at) end)
-
-mul-apply-pulse : tie.Need-mul-apply-pulse Inv-loop μ-loop
-mul-apply-pulse c = search needs
-
-element-copy-out-apply-pulse : tie.Need-element-copy-out-apply-pulse Inv-loop μ-loop
-element-copy-out-apply-pulse c = search needs
+loop-holds c = (omega arith, λ s end. apply-start _ _ s _ end)
 
 cast-apply-pulse : tie.Need-cast-apply-pulse Inv-loop μ-loop
-cast-apply-pulse c =
-    let h = c .before .before .before .pre .1 .at (c .before .before .loop .k) in
-    omega arith
-
-element-copy-out-apply-pulse-2 : tie.Need-element-copy-out-apply-pulse-2 Inv-loop μ-loop
-element-copy-out-apply-pulse-2 c = search needs
-
-mul-apply-pulse-2 : tie.Need-mul-apply-pulse-2 Inv-loop μ-loop
-mul-apply-pulse-2 c = search needs
-
-element-copy-out-apply-pulse-3 : tie.Need-element-copy-out-apply-pulse-3 Inv-loop μ-loop
-element-copy-out-apply-pulse-3 c = search needs
+cast-apply-pulse c = omega (arith, c .before .before .before .pre .1 .at (c .before .before .loop .k))
 
 apply-pulse-requires : tie.Need-apply-pulse-requires Inv-loop μ-loop
 apply-pulse-requires c κs =
-    let h = c .before .before .before .before .before .before .pre .1 .at (c .before .before .before .before .before .loop .k) in
-    omega arith
-
-enum-known-r : tie.Need-enum-known-r Inv-loop μ-loop
-enum-known-r c = search needs
-
-enum-told : tie.Need-enum-told Inv-loop μ-loop
-enum-told c = search needs
+    let head = c .before .before .before .before .before in
+    omega (arith, head .before .pre .1 .at (head .loop .k))
 
 returns : tie.Need-returns Inv-loop μ-loop
 returns c = λ s end.
-    let l = c .before .before .before .before .before .before .before .before .loop in
-    let x = c .before .before .before .before .before .before .before .before .before .args in
-    let p = given (x .n) (x .targets .now) (x .amplitudes .now) (x .places .now) in
-    let e = apply-is p (l .k) (l .lines) s (l .place) end (sym (ended-is _ (c .before .before .apply-pulse .ensures) (c .enum-told .given .1))) in
-    rw (c .enum-told .given .1) (sym (l .inv .1 s end ∙ counted-stop (applyPulse p) (l .k) (x .n) (l .lines) s (l .place) end _ _ (omega arith) e))
-
-add-k : tie.Need-add-k Inv-loop μ-loop
-add-k c = search needs
-
-loop-less : tie.Need-loop-less Inv-loop μ-loop
-loop-less c = search needs
+    let told = c .enum-told .given .1 in
+    let at-pulse = c .before .before in
+    let l = at-pulse .before .before .before .before .before .before .loop in
+    let e = apply-is _ _ _ s _ end (sym (ended-is _ (at-pulse .apply-pulse .ensures) told)) in
+    rw told (sym (l .inv .1 s end ∙ counted-stop _ _ _ _ _ _ _ _ _ (omega arith) e))
 
 loop-again : tie.Need-loop-again Inv-loop μ-loop
 loop-again c = (
   omega arith,
   λ s end.
-      let l = c .before .before .before .before .before .before .before .before .before .loop in
-      let x = c .before .before .before .before .before .before .before .before .before .before .args in
-      let p = given (x .n) (x .targets .now) (x .amplitudes .now) (x .places .now) in
-      let e = apply-is p (l .k) (l .lines) s (l .place) end (sym (ended-is _ (c .before .before .before .apply-pulse .ensures) (c .before .r .given .1))) in
-      l .inv .1 s end ∙ counted-more (applyPulse p) (l .k) (x .n) (l .lines) _ s (l .place) end _ (omega arith) e,
+      let at-pulse = c .before .before .before in
+      let l = at-pulse .before .before .before .before .before .before .loop in
+      let e = apply-is _ _ _ s _ end (sym (ended-is _ (at-pulse .apply-pulse .ensures) (c .before .applied .given .1))) in
+      l .inv .1 s end ∙ counted-more _ _ _ _ _ _ _ _ _ (omega arith) e,
 )
 
 returns-2 : tie.Need-returns-2 Inv-loop μ-loop
-returns-2 c = λ s end.
-    let l = c .before .loop in
-    let x = c .before .before .args in
-    let p = given (x .n) (x .targets .now) (x .amplitudes .now) (x .places .now) in
-    sym (l .inv .1 s end ∙ counted-done (applyPulse p) (l .k) (x .n) (l .lines) s (l .place) end (omega arith))
+returns-2 c = λ s end. sym (c .before .loop .inv .1 s end ∙ counted-done _ _ _ _ _ _ _ (omega arith))
 
 pub apply-pulses-spec : {M : Type 1} → statement M
 apply-pulses-spec =
     tie.close
-    (tie.spec
-    Inv-loop
-    μ-loop
-    loop-holds
-    mul-apply-pulse
-    element-copy-out-apply-pulse
-    cast-apply-pulse
-    element-copy-out-apply-pulse-2
-    mul-apply-pulse-2
-    element-copy-out-apply-pulse-3
-    apply-pulse-requires
-    enum-known-r
-    enum-told
-    returns
-    add-k
-    loop-less
-    loop-again
-    returns-2)
+    (tie.spec Inv-loop μ-loop loop-holds (λ c. search needs) (λ c. search needs) cast-apply-pulse (λ c. search needs)
+    (λ c. search needs) (λ c. search needs) apply-pulse-requires (λ c. search needs) (λ c. search needs) returns
+    (λ c. search needs) (λ c. search needs) loop-again returns-2)

@@ -1,3 +1,4 @@
+-- A line and an amplitude in 32 bits: nothing is lost.
 use native.Mathlib.Omega.{arith}
 use mir.Syntax.{w16}
 use mir.ValLaws.{toZ-ofZ}
@@ -9,9 +10,6 @@ use Rattle.channel_side.proofs.pulses.pulsed_line.Tie as tie
 
 cast-result : tie.Need-cast-result
 cast-result c = wide-fits _ (c .before .fits .line)
-
-cast-result-2 : tie.Need-cast-result-2
-cast-result-2 c = search needs
 
 add-result : tie.Need-add-result
 add-result c = sum-wide (c .before .args .line) (c .before .args .amplitude) (c .before .fits .line) (omega arith)
@@ -26,9 +24,6 @@ returns c =
 cast-result-3 : tie.Need-cast-result-3
 cast-result-3 c = wide-fits _ (c .before .fits .line)
 
-cast-result-4 : tie.Need-cast-result-4
-cast-result-4 c = search needs
-
 sub-result : tie.Need-sub-result
 sub-result c = diff-wide (c .before .args .line) (c .before .args .amplitude) (c .before .fits .line) (omega arith)
 
@@ -42,12 +37,5 @@ returns-2 c =
 pub pulsed-line-spec : {M : Type 1} → statement M
 pulsed-line-spec =
     tie.close
-    (tie.spec
-    cast-result
-    cast-result-2
-    add-result
-    returns
-    cast-result-3
-    cast-result-4
-    sub-result
+    (tie.spec cast-result (λ c. search needs) add-result returns cast-result-3 (λ c. search needs) sub-result
     returns-2)

@@ -1,121 +1,82 @@
-use mathlib.Core.Path.{sym, _∙_}
+-- The count and the start band, whose first line the offsets count from: the first refusal stands, and leaves the arrays alone.
+use mathlib.Core.Path.{_≡_, _∙_}
+use Prim.Native.Nat.{_<_, _≤_}
+use lib.ListN.{length, getD}
 use native.Mathlib.Omega.{arith}
+use Rattle.bits.specs.Reader.{got}
+use Rattle.bits.specs.Field.{field}
 use Rattle.bits.proofs.Taken.{answered, field-below}
-use Rattle.channel_side.proofs.PulseLaws.{low-zeros, start-line, data-cut, data-start, data-each}
+use Rattle.channel_side.specs.Pulses.{startBand, pulseData}
+use Rattle.channel_side.proofs.PulseLaws.{low-blank, start-line, data-each}
 use borrow.Author.Needs.{needs}
 use Rattle.channel_side.proofs.pulses.read_data.Statement.{statement}
 use Rattle.channel_side.proofs.pulses.read_data.Tie as tie
 
-read-field-requires : tie.Need-read-field-requires
-read-field-requires c κs = search needs
+abbrev entry : tie.After-count-field → tie.Start
+entry c = c .before .before .before .before .before
 
-enum-known-f1 : tie.Need-enum-known-f1
-enum-known-f1 c = search needs
+-- the count less one
+count : (c : tie.After-count-field)
+    → field 2 (entry c .args .s .now) (entry c .args .at) (entry c .args .end)
+    ≡ got (c .count-field .given .0 .0) (c .count-field .given .0 .1 .0)
+count c = answered (c .before .before .read-field .ensures) (c .count-field .given .1)
 
-enum-told : tie.Need-enum-told
-enum-told c = search needs
+abbrev before-start : tie.After-start-field → tie.After-count-field
+before-start c = c .before .before .before .before
+
+-- the start band
+start : (c : tie.After-start-field)
+    → startBand (entry (before-start c) .args .index) (entry (before-start c) .args .s .now) (before-start c .count-field .given .0 .1 .0)
+    (entry (before-start c) .args .end) ≡ got (c .start-field .given .0 .0) (c .start-field .given .0 .1 .0)
+start c = answered (c .before .before .read-start .ensures) (c .start-field .given .1)
+
+-- its first line lies in the window
+line : (c : tie.After-start-field)
+    → (c .start-field .given .0 .0 < length (entry (before-start c) .args .edges .now))
+    × (getD (entry (before-start c) .args .edges .now) (c .start-field .given .0 .0) 0 ≤ 1024)
+line c = rw (entry (before-start c) .pre .1) (start-line _ _ _ _ _ _ (start c))
 
 returns : tie.Need-returns
+unfolding pulseData
 returns c =
-    let a = c .before .before .before .before .before in
-    let x = a .args in
-    let e = answered (c .before .before .read-field .ensures) (c .enum-told .given .1) in
-    rw (c .enum-told .given .1) (sym (data-cut (x .index) (x .s .now) (x .at) (x .end) _ _ e), rw (a .pre .2) low-zeros, tt)
-
-read-start-requires : tie.Need-read-start-requires
-read-start-requires c κs = search needs
-
-enum-known-f2 : tie.Need-enum-known-f2
-enum-known-f2 c = search needs
-
-enum-told-2 : tie.Need-enum-told-2
-enum-told-2 c = search needs
+    let told = c .enum-told .given .1 in
+    let at-count = c .before .before in
+    rw told (rw (answered (at-count .read-field .ensures) told), low-blank (at-count .before .before .before .pre .2), tt)
 
 returns-2 : tie.Need-returns-2
+unfolding pulseData
 returns-2 c =
-    let f = c .before .before .before .before in
-    let a = f .before .before .before .before .before in
-    let x = a .args in
-    let e = answered (f .before .before .read-field .ensures) (f .f1 .given .1) in
-    let o = answered (c .before .before .read-start .ensures) (c .enum-told2 .given .1) in
-    rw (c .enum-told2 .given .1) (sym (data-start (x .index) (x .s .now) (x .at) (x .end) _ _ _ _ e o), rw (a .pre .2) low-zeros, tt)
-
-cast-line : tie.Need-cast-line
-cast-line c = search needs
-
-mul-line : tie.Need-mul-line
-mul-line c = search needs
+    let told = c .enum-told2 .given .1 in
+    let at-start = c .before .before in
+    let n = at-start .before .before in
+    rw told (rw (count n, answered (at-start .read-start .ensures) told), low-blank (entry n .pre .2), tt)
 
 shared-slice-read-line : tie.Need-shared-slice-read-line
-shared-slice-read-line c =
-    let g = c .before .before in
-    let f = g .before .before .before .before in
-    let a = f .before .before .before .before .before in
-    let x = a .args in
-    let e = answered (f .before .before .read-field .ensures) (f .f1 .given .1) in
-    let o = answered (g .before .before .read-start .ensures) (g .f2 .given .1) in
-    rw (a .pre .1) (start-line (x .index) (x .s .now) _ (x .end) _ _ o .0)
+shared-slice-read-line c = line (c .before .before) .0
 
 cast-line-2 : tie.Need-cast-line-2
-cast-line-2 c =
-    let g = c .before .before in
-    let f = g .before .before .before .before in
-    let a = f .before .before .before .before .before in
-    let x = a .args in
-    let e = answered (f .before .before .read-field .ensures) (f .f1 .given .1) in
-    let o = answered (g .before .before .read-start .ensures) (g .f2 .given .1) in
-    let h = start-line (x .index) (x .s .now) _ (x .end) _ _ o .1 in
-    rw (a .pre .1) (omega arith)
+cast-line-2 c = omega (arith, line (c .before .before))
 
 add-read-each : tie.Need-add-read-each
-add-read-each c =
-    let g = c .before .before in
-    let f = g .before .before .before .before in
-    let a = f .before .before .before .before .before in
-    let x = a .args in
-    let e = answered (f .before .before .read-field .ensures) (f .f1 .given .1) in
-    let o = answered (g .before .before .read-start .ensures) (g .f2 .given .1) in
-    omega (arith, field-below 2 (x .s .now) (x .at) (x .end) _ _ e)
+add-read-each c = omega (arith, field-below 2 _ _ _ _ _ (count (before-start (c .before .before))))
 
 read-each-requires : tie.Need-read-each-requires
 read-each-requires c κs =
-    let g = c .before .before .before .before .before in
-    let f = g .before .before .before .before in
-    let a = f .before .before .before .before .before in
-    let x = a .args in
-    let e = answered (f .before .before .read-field .ensures) (f .f1 .given .1) in
-    let o = answered (g .before .before .read-start .ensures) (g .f2 .given .1) in
-    let h = start-line (x .index) (x .s .now) _ (x .end) _ _ o .1 in
-    let b = field-below 2 (x .s .now) (x .at) (x .end) _ _ e in
-    (a .pre .0, omega arith, rw (a .pre .1) h, a .pre .2, a .pre .3, a .pre .4)
+    let begun = c .before .before .before .before .before in
+    let n = before-start begun in
+    let b = field-below 2 _ _ _ _ _ (count n) in
+    (entry n .pre .0, omega arith, line begun .1, entry n .pre .2)
 
 returns-3 : tie.Need-returns-3
 returns-3 c =
-    let g = c .before .before .before .before .before .before in
-    let f = g .before .before .before .before in
-    let a = f .before .before .before .before .before in
-    let x = a .args in
-    let e = answered (f .before .before .read-field .ensures) (f .f1 .given .1) in
-    let o = answered (g .before .before .read-start .ensures) (g .f2 .given .1) in
+    let begun = c .before .before .before .before .before .before in
+    let n = before-start begun in
     let r = c .read-each .ensures in
-    (r .0 ∙ rw (a .pre .1) (data-each (x .index) (x .s .now) (x .at) (x .end) _ _ _ _ e o), r .1, r .2)
+    (r .0 ∙ rw (entry n .pre .1) (data-each _ _ _ _ _ _ _ _ (count n) (start begun)), r .1, r .2)
 
 pub read-data-spec : {M : Type 1} → statement M
 read-data-spec =
     tie.close
-    (tie.spec
-    read-field-requires
-    enum-known-f1
-    enum-told
-    returns
-    read-start-requires
-    enum-known-f2
-    enum-told-2
-    returns-2
-    cast-line
-    mul-line
-    shared-slice-read-line
-    cast-line-2
-    add-read-each
-    read-each-requires
-    returns-3)
+    (tie.spec (λ c κs. search needs) (λ c. search needs) (λ c. search needs) returns (λ c κs. search needs)
+    (λ c. search needs) (λ c. search needs) returns-2 (λ c. search needs) (λ c. search needs) shared-slice-read-line
+    cast-line-2 add-read-each read-each-requires returns-3)

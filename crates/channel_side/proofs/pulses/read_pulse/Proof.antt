@@ -1,108 +1,71 @@
-use mathlib.Core.Path.{sym}
+-- The offset, whose line is judged, then the amplitude: the first refusal stands, and leaves the arrays alone.
+use mathlib.Core.Path.{_≡_}
 use native.Mathlib.Omega.{arith}
+use borrow.Author.Tests.{le-leb, lt-leb}
+use Rattle.bits.specs.Reader.{got}
+use Rattle.bits.specs.Field.{field}
+use Rattle.bits.specs.Places.{here}
 use Rattle.bits.proofs.Taken.{answered, field-below}
-use Rattle.channel_side.proofs.PulseLaws.{low-set, pulse-short, pulse-high, pulse-cut, pulse-got}
+use Rattle.channel_side.specs.Pulses.{pulse}
+use Rattle.channel_side.proofs.PulseLaws.{low-set}
 use borrow.Author.Needs.{needs}
 use Rattle.channel_side.proofs.pulses.read_pulse.Statement.{statement}
 use Rattle.channel_side.proofs.pulses.read_pulse.Tie as tie
 
-read-field-requires : tie.Need-read-field-requires
-read-field-requires c κs = search needs
+abbrev entry : tie.After-offset-field → tie.Start
+entry c = c .before .before .before .before
 
-enum-known-f1 : tie.Need-enum-known-f1
-enum-known-f1 c = search needs
-
-enum-told : tie.Need-enum-told
-enum-told c = search needs
+-- the offset
+offset : (c : tie.After-offset-field)
+    → field 5 (entry c .args .s .now) (entry c .args .at) (entry c .args .end)
+    ≡ got (c .offset-field .given .0 .0) (c .offset-field .given .0 .1 .0)
+offset c = answered (c .before .before .read-field .ensures) (c .offset-field .given .1)
 
 returns : tie.Need-returns
+unfolding pulse here
 returns c =
-    let a = c .before .before .before .before in
-    let x = a .args in
-    let e = answered (c .before .before .read-field .ensures) (c .enum-told .given .1) in
-    rw (c .enum-told .given .1) (sym (pulse-short (x .k) (x .last) (x .lines .now) (x .amplitudes .now) (x .places .now) (x .s .now) (x .at) (x .end) _ _ e), a .pre .3)
+    let told = c .enum-told .given .1 in
+    let at-offset = c .before .before in
+    rw told (rw (answered (at-offset .read-field .ensures) told), at-offset .before .before .pre .3, tt)
 
 add-line : tie.Need-add-line
-add-line c =
-    let x = c .before .before .before .before .before .args in
-    let e = answered (c .before .before .before .read-field .ensures) (c .before .f1 .given .1) in
-    omega (arith, field-below 5 (x .s .now) (x .at) (x .end) _ _ e)
+add-line c = omega (arith, field-below 5 _ _ _ _ _ (offset (c .before)))
 
 returns-2 : tie.Need-returns-2
+unfolding pulse here
 returns-2 c =
-    let f = c .before .before in
-    let a = f .before .before .before .before in
-    let x = a .args in
-    let e = answered (f .before .before .read-field .ensures) (f .f1 .given .1) in
-    (sym (pulse-high (x .k) (x .last) (x .lines .now) (x .amplitudes .now) (x .places .now) (x .s .now) (x .at) (x .end) _ _ e (c .if1 .taken)), a .pre .3)
-
-read-field-requires-2 : tie.Need-read-field-requires-2
-read-field-requires-2 c κs = search needs
-
-enum-known-f2 : tie.Need-enum-known-f2
-enum-known-f2 c = search needs
-
-enum-told-2 : tie.Need-enum-told-2
-enum-told-2 c = search needs
+    let o = c .before .before in
+    (rw (offset o, lt-leb _ _ (c .if1 .taken)), entry o .pre .3, tt)
 
 returns-3 : tie.Need-returns-3
+unfolding pulse here
 returns-3 c =
-    let g = c .before .before .before in
-    let f = g .before .before in
-    let a = f .before .before .before .before in
-    let x = a .args in
-    let e = answered (f .before .before .read-field .ensures) (f .f1 .given .1) in
-    let o = answered (c .before .before .read-field2 .ensures) (c .enum-told2 .given .1) in
-    rw (c .enum-told2 .given .1) (sym (pulse-cut (x .k) (x .last) (x .lines .now) (x .amplitudes .now) (x .places .now) (x .s .now) (x .at) (x .end) _ _ _ _ e (g .if1 .left) o), a .pre .3)
-
-mul-lines : tie.Need-mul-lines
-mul-lines c = search needs
-
-element-write-lines : tie.Need-element-write-lines
-element-write-lines c = search needs
+    let told = c .enum-told2 .given .1 in
+    let at-amplitude = c .before .before in
+    let judged = at-amplitude .before in
+    let o = judged .before .before in
+    rw told (rw (offset o, le-leb _ _ (judged .if1 .left), answered (at-amplitude .read-field2 .ensures) told), entry o .pre .3, tt)
 
 cast-amplitudes : tie.Need-cast-amplitudes
 cast-amplitudes c =
-    let o = answered (c .before .before .before .read-field2 .ensures) (c .before .f2 .given .1) in
-    omega (arith, field-below 4 _ _ _ _ _ o)
-
-element-write-amplitudes : tie.Need-element-write-amplitudes
-element-write-amplitudes c = search needs
-
-mul-places : tie.Need-mul-places
-mul-places c = search needs
-
-element-write-places : tie.Need-element-write-places
-element-write-places c = search needs
+    let amplitude = answered (c .before .before .before .read-field2 .ensures) (c .before .amplitude-field .given .1) in
+    omega (arith, field-below 4 _ _ _ _ _ amplitude)
 
 returns-4 : tie.Need-returns-4
+unfolding pulse here
 returns-4 c =
-    let g = c .before .before .before .before in
-    let f = g .before .before in
-    let a = f .before .before .before .before in
-    let x = a .args in
-    let e = answered (f .before .before .read-field .ensures) (f .f1 .given .1) in
-    let o = answered (c .before .before .before .read-field2 .ensures) (c .before .f2 .given .1) in
-    (sym (pulse-got (x .k) (x .last) (x .lines .now) (x .amplitudes .now) (x .places .now) (x .s .now) (x .at) (x .end) _ _ _ _ e (g .if1 .left) o), low-set (x .lines .now) (x .k) _ (g .if1 .left) (a .pre .3))
+    let at-amplitude = c .before .before .before in
+    let judged = at-amplitude .before in
+    let o = judged .before .before in
+    let amplitude = answered (at-amplitude .read-field2 .ensures) (c .before .amplitude-field .given .1) in (
+      rw (offset o, le-leb _ _ (judged .if1 .left), amplitude),
+      low-set _ _ _ (judged .if1 .left) (entry o .pre .3),
+      judged .if1 .left,
+    )
 
 pub read-pulse-spec : {M : Type 1} → statement M
 read-pulse-spec =
     tie.close
-    (tie.spec
-    read-field-requires
-    enum-known-f1
-    enum-told
-    returns
-    add-line
-    returns-2
-    read-field-requires-2
-    enum-known-f2
-    enum-told-2
-    returns-3
-    mul-lines
-    element-write-lines
-    cast-amplitudes
-    element-write-amplitudes
-    mul-places
-    element-write-places
-    returns-4)
+    (tie.spec (λ c κs. search needs) (λ c. search needs) (λ c. search needs) returns add-line returns-2
+    (λ c κs. search needs) (λ c. search needs) (λ c. search needs) returns-3 (λ c. search needs) (λ c. search needs)
+    cast-amplitudes (λ c. search needs) (λ c. search needs) (λ c. search needs) returns-4)

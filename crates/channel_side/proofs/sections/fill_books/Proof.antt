@@ -1,3 +1,4 @@
+-- Each turn puts the book at the next place.
 use Prim.Native.Nat.{_+_, _-_, _≤_}
 use mathlib.Core.Path.{_≡_, sym, _∙_}
 use native.Mathlib.Omega.{arith}
@@ -19,18 +20,6 @@ loop-holds c =
     let r : c .args .from + 0 ≡ c .args .from = omega arith in
     (omega arith, rw (q, r))
 
-add-books : tie.Need-add-books Inv-loop μ-loop
-add-books c = search needs
-
-element-write-books : tie.Need-element-write-books Inv-loop μ-loop
-element-write-books c = search needs
-
-add-k : tie.Need-add-k Inv-loop μ-loop
-add-k c = search needs
-
-loop-less : tie.Need-loop-less Inv-loop μ-loop
-loop-less c = search needs
-
 loop-again : tie.Need-loop-again Inv-loop μ-loop
 loop-again c =
     let l = c .before .loop in
@@ -48,13 +37,5 @@ returns c =
 pub fill-books-spec : {M : Type 1} → statement M
 fill-books-spec =
     tie.close
-    (tie.spec
-    Inv-loop
-    μ-loop
-    loop-holds
-    add-books
-    element-write-books
-    add-k
-    loop-less
-    loop-again
-    returns)
+    (tie.spec Inv-loop μ-loop loop-holds (λ c. search needs) (λ c. search needs) (λ c. search needs)
+    (λ c. search needs) loop-again returns)

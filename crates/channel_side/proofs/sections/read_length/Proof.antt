@@ -1,128 +1,92 @@
-use Prim.Native.Nat.{ℕ, suc, _+_, _-_, _<_, _≤_, _^_}
+-- What is left of the length is read from the bands that are there; an increment of all ones adds one at least, so that the room is passed
+-- in the end.
+use Prim.Native.Nat.{_+_, _-_, _≤_, _^_}
 use mathlib.Core.Path.{_≡_, refl, sym, _∙_}
 use native.Mathlib.Omega.{arith}
 use lib.Pow.{pow-mono}
-use borrow.Author.Needs.{needs}
-use Rattle.channel_side.specs.Sections.{increments, sectionLength}
-use Rattle.channel_side.proofs.SectionLaws.{length-refused, length-none, length-past, length-done, length-more, shifted}
+use Rattle.bits.specs.Reader.{got}
+use Rattle.bits.specs.Field.{field}
 use Rattle.bits.proofs.Taken.{answered, field-below}
+use Rattle.channel_side.specs.Sections.{sectionLength}
+use Rattle.channel_side.proofs.SectionLaws.{lengthFrom, length-refused, length-none, length-past, length-done, length-more, shifted}
+use borrow.Author.Needs.{needs}
 use Rattle.channel_side.proofs.sections.read_length.Statement.{statement}
 use Rattle.channel_side.proofs.sections.read_length.Tie as tie
 
 abbrev Inv-loop : tie.InvT-loop
-Inv-loop s at end width room n₀ place₀ n place =
-    (n ≤ room) × ((k : ℕ) × (room < n + k) × (sectionLength width room s at end ≡ increments k width room n s place end))
+Inv-loop s at end width room bands₀ place₀ bands place =
+    (bands ≤ room) × (sectionLength width room s at end ≡ lengthFrom width room bands s place end)
 
 abbrev μ-loop : tie.MeasureT-loop
-μ-loop s at end width room n₀ place₀ n place = room - n
+μ-loop s at end width room bands₀ place₀ bands place = room - bands
+
+abbrev entry : tie.After-increment Inv-loop μ-loop → tie.Start Inv-loop μ-loop
+entry c = c .before .before .before .before .before
+
+-- the increment of a turn
+increment : (c : tie.After-increment Inv-loop μ-loop)
+    → field (entry c .args .width) (entry c .args .s .now) (c .before .before .before .loop .place) (entry c .args .end)
+    ≡ got (c .increment .given .0 .0) (c .increment .given .0 .1 .0)
+increment c = answered (c .before .before .read-field .ensures) (c .increment .given .1)
+
+-- an increment is all ones: it is one at least
+all-ones : (c : tie.Else3 Inv-loop μ-loop)
+    → (c .before .before .before .before .increment .given .0 .0 + 1 ≡ 2 ^ entry (c .before .before .before .before) .args .width)
+    × (1 ≤ c .before .before .before .before .increment .given .0 .0)
+all-ones c =
+    let width = entry (c .before .before .before .before) .args .width in
+    let e = c .if3 .left ∙ shifted width (omega arith) in
+    (e, omega (arith, e, pow-mono {i = 1} {j = width} (omega arith)))
 
 loop-holds : tie.Need-loop-holds Inv-loop μ-loop
-unfolding sectionLength
-loop-holds c = (omega arith, (suc (c .before .args .room), omega arith, refl))
-
-read-field-requires : tie.Need-read-field-requires Inv-loop μ-loop
-read-field-requires c κs = search needs
-
-enum-known-f : tie.Need-enum-known-f Inv-loop μ-loop
-enum-known-f c = search needs
-
-enum-told : tie.Need-enum-told Inv-loop μ-loop
-enum-told c = search needs
+unfolding sectionLength lengthFrom
+loop-holds c = (omega arith, refl)
 
 returns : tie.Need-returns Inv-loop μ-loop
 returns c =
-    let l = c .before .before .before .loop in
-    let x = c .before .before .before .before .before .args in
-    let e = answered (c .before .before .read-field .ensures) (c .enum-told .given .1) in
-    rw (c .enum-told .given .1) (sym (l .inv .1 .2 ∙ length-refused (l .inv .1 .0) (x .width) (x .room) (l .n) (x .s .now) (l .place) (x .end) _ _ (omega arith) e))
+    let told = c .enum-told .given .1 in
+    let at-field = c .before .before in
+    rw told (sym (at-field .before .loop .inv .1 ∙ length-refused _ _ _ _ _ _ (answered (at-field .read-field .ensures) told)), tt)
 
-add-n : tie.Need-add-n Inv-loop μ-loop
-add-n c =
-    let p = c .before in
-    let l = p .before .before .before .loop in
-    let x = p .before .before .before .before .before .args in
-    let e = answered (p .before .before .read-field .ensures) (p .f .given .1) in
-    let b = field-below (x .width) (x .s .now) (l .place) (x .end) _ _ e in
-    omega (arith, pow-mono {i = x .width} {j = 5} (omega arith))
+add-bands : tie.Need-add-bands Inv-loop μ-loop
+add-bands c =
+    let width = entry (c .before) .args .width in
+    omega (arith, field-below width _ _ _ _ _ (increment (c .before)), pow-mono {i = width} {j = 5} (omega arith))
 
 returns-2 : tie.Need-returns-2 Inv-loop μ-loop
 returns-2 c =
-    let p = c .before .before in
-    let l = p .before .before .before .loop in
-    let x = p .before .before .before .before .before .args in
-    let e = answered (p .before .before .read-field .ensures) (p .f .given .1) in
-    let k = l .inv .1 .0 in
-    let h = l .inv .1 .1 in
-    sym (l .inv .1 .2 ∙ length-none k (x .width) (x .room) (l .n) (x .s .now) (l .place) (x .end) _ _ (omega arith) e (c .if1 .taken))
+    let turn = c .before .before in
+    let l = turn .before .before .before .loop in
+    (sym (l .inv .1 ∙ length-none _ _ _ _ _ _ (increment turn) (c .if1 .taken)), tt)
 
 returns-3 : tie.Need-returns-3 Inv-loop μ-loop
 returns-3 c =
-    let p = c .before .before .before in
-    let l = p .before .before .before .loop in
-    let x = p .before .before .before .before .before .args in
-    let e = answered (p .before .before .read-field .ensures) (p .f .given .1) in
-    let k = l .inv .1 .0 in
-    let h = l .inv .1 .1 in
-    sym (l .inv .1 .2 ∙ length-past k (x .width) (x .room) (l .n) (x .s .now) (l .place) (x .end) _ _ (omega arith) e (omega arith) (c .if2 .taken))
-
-add-if3 : tie.Need-add-if3 Inv-loop μ-loop
-add-if3 c = search needs
-
-cast-if3 : tie.Need-cast-if3 Inv-loop μ-loop
-cast-if3 c = search needs
-
-shl-if3 : tie.Need-shl-if3 Inv-loop μ-loop
-shl-if3 c = search needs
+    let turn = c .before .before .before in
+    let l = turn .before .before .before .loop in
+    (sym (l .inv .1 ∙ length-past _ _ _ _ _ _ (increment turn) (omega arith) (c .if2 .taken)), tt)
 
 returns-4 : tie.Need-returns-4 Inv-loop μ-loop
 returns-4 c =
-    let p = c .before .before .before .before in
-    let l = p .before .before .before .loop in
-    let x = p .before .before .before .before .before .args in
-    let e = answered (p .before .before .read-field .ensures) (p .f .given .1) in
-    let k = l .inv .1 .0 in
-    let h = l .inv .1 .1 in
-    sym (l .inv .1 .2 ∙ length-done k (x .width) (x .room) (l .n) (x .s .now) (l .place) (x .end) _ _ (omega arith) e (omega arith) (omega arith) (λ q. c .if3 .taken (q ∙ sym (shifted (x .width) (omega arith)))))
+    let turn = c .before .before .before .before in
+    let l = turn .before .before .before .loop in (
+      sym (l .inv .1
+          ∙ length-done _ _ _ _ _ _ (increment turn) (omega arith) (omega arith) (omega arith)
+          (λ q. c .if3 .taken (q ∙ sym (shifted _ (omega arith))))),
+      (omega arith, omega arith),
+    )
 
 loop-less : tie.Need-loop-less Inv-loop μ-loop
-loop-less c =
-    let p = c .before .before .before .before in
-    let l = p .before .before .before .loop in
-    let x = p .before .before .before .before .before .args in
-    let e = answered (p .before .before .read-field .ensures) (p .f .given .1) in
-    let k = l .inv .1 .0 in
-    let h = l .inv .1 .1 in
-    let y : p .f .given .0 .0 + 1 ≡ 2 ^ x .width = c .if3 .left ∙ shifted (x .width) (omega arith) in
-    omega (arith, pow-mono {i = 1} {j = x .width} (omega arith))
+loop-less c = omega (arith, all-ones c)
 
 loop-again : tie.Need-loop-again Inv-loop μ-loop
 loop-again c =
-    let p = c .before .before .before .before in
-    let l = p .before .before .before .loop in
-    let x = p .before .before .before .before .before .args in
-    let e = answered (p .before .before .read-field .ensures) (p .f .given .1) in
-    let k = l .inv .1 .0 in
-    let h = l .inv .1 .1 in
-    let y : p .f .given .0 .0 + 1 ≡ 2 ^ x .width = c .if3 .left ∙ shifted (x .width) (omega arith) in
-    (omega arith, (k - 1, omega (arith, pow-mono {i = 1} {j = x .width} (omega arith)), l .inv .1 .2 ∙ length-more k (x .width) (x .room) (l .n) (x .s .now) (l .place) (x .end) _ _ (omega arith) e (omega arith) (omega arith) y))
+    let turn = c .before .before .before .before in
+    let l = turn .before .before .before .loop in
+    (omega arith, l .inv .1 ∙ length-more _ _ _ _ _ _ (increment turn) (omega arith) (omega arith) (omega arith) (all-ones c .0))
 
 pub read-length-spec : {M : Type 1} → statement M
 read-length-spec =
     tie.close
-    (tie.spec
-    Inv-loop
-    μ-loop
-    loop-holds
-    read-field-requires
-    enum-known-f
-    enum-told
-    returns
-    add-n
-    returns-2
-    returns-3
-    add-if3
-    cast-if3
-    shl-if3
-    returns-4
-    loop-less
+    (tie.spec Inv-loop μ-loop loop-holds (λ c κs. search needs) (λ c. search needs) (λ c. search needs) returns
+    add-bands returns-2 returns-3 (λ c. search needs) (λ c. search needs) (λ c. search needs) returns-4 loop-less
     loop-again)
