@@ -18,7 +18,7 @@ use Rattle.bits.specs.Loop.{counted}
 use Rattle.bits.proofs.LoopLaws.{counted-start}
 use Rattle.channel_side.specs.Pulses.{Pulses, pulsed, changed, applyPulse, applyPulses}
 use Rattle.bits.proofs.Bools.{true-false}
-use Rattle.bits.proofs.Signed.{fits, abs-add, abs-neg}
+use Rattle.bits.proofs.Signed.{fits, abs-add, abs-neg, widened}
 
 abs-fits : (z : ℤ) → SFits w16 z → natAbs z ≤ 32768
 abs-fits (pos n) f = let h = f .sfits in omega arith
@@ -28,7 +28,7 @@ pub wide-fits : (z : ℤ) → SFits w16 z → SFits w32 (toZ w16 (ofZ w16 z))
 wide-fits z f = rw (toZ-ofZ w16 z f) (fits 32768 (abs-fits z f) (omega arith))
 
 pub wide-is : (z : ℤ) → SFits w16 z → toZ w32 (ofZ w32 (toZ w16 (ofZ w16 z))) ≡ z
-wide-is z f = rw (toZ-ofZ w16 z f) (toZ-ofZ w32 z (fits 32768 (abs-fits z f) (omega arith)))
+wide-is z f = widened w16 w32 32768 z f (abs-fits z f) (omega arith)
 
 module _ (z : ℤ) (a : ℕ) (f : SFits w16 z) (h : a < 256) where
   sum-small : SFits w32 (z +ℤ pos a)
