@@ -4,7 +4,7 @@ import os
 import re
 
 TOP = os.path.dirname(os.path.dirname(os.path.abspath(__file__)))
-FUNCTION = re.compile(r'^(?P<export>#\[no_mangle\]\n)?(?P<public>pub )?(?:extern "C" )?fn (?P<name>\w+)(?P<head>.*?)\n\{', re.M | re.S)
+FUNCTION = re.compile(r'^(?P<public>pub )?(?:extern "C" )?fn (?P<name>\w+)(?P<head>.*?)(?:\n\{| \{\n)', re.M | re.S)
 
 
 class Function:
@@ -28,9 +28,8 @@ def functions():
         if not os.path.exists(os.path.join(os.path.dirname(path), "lib.rt")):  # a program offers no functions
             continue
         text = open(path).read()
-        imports = re.findall(r"^ghost use Rattle·(\w+?)(?:·specs)?\.specs\.(\w+)\.\{(.*)\};$|^ghost use Rattle·(\w+)·specs\.specs\.(\w+)\.\{(.*)\};$",
-                             text, re.M)
-        named = [(a or d, b or e, (c or f).split(", ")) for a, b, c, d, e, f in imports]
+        imports = re.findall(r"^ghost use Rattle·(\w+?)(?:·specs)?\.specs\.(\w+)\.\{(.*)\};$", text, re.M)
+        named = [(used, file, names.split(", ")) for used, file, names in imports]
         for found in FUNCTION.finditer(text):
             place = crate if module == "lib" else f"{crate}::{module}"
             public = bool(found.group("public")) and is_open(crate, module)
@@ -45,7 +44,8 @@ def user_level():
 
 def definition_files():
     """Every definition file, as CRATE/specs/NAME.antt."""
-    return sorted(os.path.relpath(path, os.path.join(TOP, "crates")) for path in glob.glob(os.path.join(TOP, "crates", "*", "specs", "*.antt")))
+    paths = glob.glob(os.path.join(TOP, "crates", "*", "specs", "*.antt"))
+    return sorted(os.path.relpath(path, os.path.join(TOP, "crates")) for path in paths)
 
 
 def imported(path):

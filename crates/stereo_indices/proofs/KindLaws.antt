@@ -18,8 +18,9 @@ use Rattle.bits.specs.Reader.{got, pick}
 use Rattle.bits.proofs.Bools.{and-both, and-left, and-right, true-false}
 use Rattle.bits.proofs.Signed.{abs-add, abs-neg, thru, widened}
 use Rattle.tables.specs.Tables.{Table, codesOf, lensOf, wordOf}
-use Rattle.tables.specs.GeneratedNames.{tables, noTable, tableAt, levelDefaultFrequency, levelDefaultTime, levelFineFrequency, levelFineTime}
-use Rattle.tables.specs.GeneratedNames.{coherenceFrequency, coherenceTime, phaseFrequency, phaseTime, overallPhaseFrequency, overallPhaseTime}
+use Rattle.tables.specs.GeneratedNames.{tables, noTable, tableAt, levelDefaultFrequency, levelDefaultTime, levelFineFrequency}
+use Rattle.tables.specs.GeneratedNames.{levelFineTime, coherenceFrequency, coherenceTime, phaseFrequency, phaseTime}
+use Rattle.tables.specs.GeneratedNames.{overallPhaseFrequency, overallPhaseTime}
 use Rattle.tables.specs.GeneratedWords.{allCodes}
 use Rattle.words.proofs.WordLaws.{word-fit}
 use Rattle.stereo_indices.specs.Kind.{isPhase, fine, byMode, bands, byKind, least, most, within, inRange}
