@@ -22,6 +22,10 @@ ended-is a e p = sym e ∙ ap (λ (y : Ended). endedAnswer y a) p
 pub passed : {A : Type 0} (a : A) {e : Ended} {f g : Field} → e ≡ passedOn f → f ≡ g → endedAnswer e a ≡ endedAnswer (passedOn g) a
 passed a p q = ap (λ (x : Ended). endedAnswer x a) (p ∙ ap passedOn q)
 
+-- how a part's reading ended, handed on as the end of what holds it
+pub handed : {A : Type 0} (a : A) {e r q : Ended} → e ≡ r → r ≡ q → endedAnswer e a ≡ endedAnswer q a
+handed a p q = ap (λ (x : Ended). endedAnswer x a) (p ∙ q)
+
 -- a field that was read is below 2 ^ n
 pub field-below : (n : ℕ) (s : List ℕ) (at end v next : ℕ) → field n s at end ≡ got v next → v < 2 ^ n
 field-below n s at end v next e = let w = field-taken n s at end next v e in rw (w .1) (bitsFrom-lt s at n)

@@ -3,4 +3,3 @@ pub mod StreamLawful
 pub mod PromiseLaws
 pub mod Demands
 pub mod All
-pub mod Examples

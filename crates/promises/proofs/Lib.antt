@@ -6,3 +6,4 @@ pub mod OverBytes
 pub mod Bench
 pub mod StereoExamples
 pub mod Published
+pub mod ChannelExamples

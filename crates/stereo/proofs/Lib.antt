@@ -1,4 +1,3 @@
-pub mod ReadLaws
 pub mod HeaderLaws
 pub mod FrameLaws
 pub mod ExtensionLaws

@@ -2,9 +2,8 @@
 use Prim.Native.Nat.{_<_, _≤_, _+_, _^_}
 use mathlib.Core.Path.{_∙_}
 use native.Mathlib.Omega.{arith}
-use Rattle.bits.proofs.Taken.{answered, field-below}
+use Rattle.bits.proofs.Taken.{answered, field-below, passed}
 use Rattle.stereo.specs.Extension.{extensionSent}
-use Rattle.stereo.proofs.ReadLaws.{passed}
 use Rattle.stereo.proofs.ExtensionLaws.{sent-rest, esc-below}
 use borrow.Author.Needs.{needs}
 use Rattle.stereo.proofs.extensions.read_extension_sent.Statement.{statement}

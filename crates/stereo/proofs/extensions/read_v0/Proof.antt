@@ -3,8 +3,7 @@ use Rattle.stereo.specs.declared.Body.{Body}
 use mathlib.Core.Path.{_∙_, ap}
 use Rattle.bits.specs.InnerAnswers.{endedAnswer}
 use Rattle.bits.specs.declared.Ended.{Ended}
-use Rattle.bits.proofs.Taken.{answered, ended-is}
-use Rattle.stereo.proofs.ReadLaws.{passed}
+use Rattle.bits.proofs.Taken.{answered, ended-is, passed}
 use Rattle.stereo.proofs.ExtensionLaws.{v0-refused, v0-cut, v0-rest}
 use borrow.Author.Needs.{needs}
 use Rattle.stereo.proofs.extensions.read_v0.Statement.{statement}

@@ -2,9 +2,8 @@
 use Prim.Native.Nat.{_<_, _^_}
 use mathlib.Core.Path.{_∙_}
 use native.Mathlib.Omega.{arith}
-use Rattle.bits.proofs.Taken.{answered, field-below}
+use Rattle.bits.proofs.Taken.{answered, field-below, passed}
 use Rattle.stereo.specs.Frame.{frame}
-use Rattle.stereo.proofs.ReadLaws.{passed}
 use Rattle.stereo.proofs.FrameLaws.{frame-rest}
 use borrow.Author.Needs.{needs}
 use Rattle.stereo.proofs.frames.read_frame.Statement.{statement}

@@ -1,9 +1,8 @@
 -- The flag tells whether the header's fields follow.
 use mathlib.Core.Path.{_∙_}
 use borrow.Author.Tests.{eq-eqb, ne-eqb}
-use Rattle.bits.proofs.Taken.{answered}
+use Rattle.bits.proofs.Taken.{answered, passed}
 use Rattle.stereo.specs.Header.{header}
-use Rattle.stereo.proofs.ReadLaws.{passed}
 use borrow.Author.Needs.{needs}
 use Rattle.stereo.proofs.headers.read_header.Statement.{statement}
 use Rattle.stereo.proofs.headers.read_header.Tie as tie

@@ -1,8 +1,7 @@
 -- Two enable bits with their modes and one without: each `return` shows those that were there, and the one that was refused.
 use mathlib.Core.Path.{_∙_}
-use Rattle.bits.proofs.Taken.{answered, ended-is}
+use Rattle.bits.proofs.Taken.{answered, ended-is, passed, handed}
 use Rattle.stereo.specs.Header.{headerFields}
-use Rattle.stereo.proofs.ReadLaws.{passed, handed}
 use borrow.Author.Needs.{needs}
 use Rattle.stereo.proofs.headers.read_header_fields.Statement.{statement}
 use Rattle.stereo.proofs.headers.read_header_fields.Tie as tie

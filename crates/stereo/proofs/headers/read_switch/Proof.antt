@@ -1,8 +1,7 @@
 -- An enable bit and its mode, one after the other: each `return` shows those that were there, and the one that was refused.
 use mathlib.Core.Path.{_∙_}
-use Rattle.bits.proofs.Taken.{answered}
+use Rattle.bits.proofs.Taken.{answered, passed}
 use Rattle.stereo.specs.Header.{switch}
-use Rattle.stereo.proofs.ReadLaws.{passed}
 use borrow.Author.Needs.{needs}
 use Rattle.stereo.proofs.headers.read_switch.Statement.{statement}
 use Rattle.stereo.proofs.headers.read_switch.Tie as tie

@@ -1,5 +1,5 @@
--- Streams and rules, computed: three streams of published and made files, whose numbers two decoders agree on, and the examples of the
--- paper.
+-- Streams and rules, computed: three streams of published and made files, whose numbers two decoders agree on, and examples of the
+-- rules.
 -- Assumes nothing.
 use Prim.Native.Nat.{ℕ, _-_}
 use mathlib.Core.Path.{_≡_, refl}
