@@ -93,11 +93,21 @@ fn put_body(
     requires { ⌜ Room 5800 at (now out) × Tables (now codes) (now lens) ⌝ }
     ensures { λ r. ⌜ Wrote 5452 (now (out .entry)) at (spellBody mode (records .ipd) (records .opd) n body) r (now (out .exit)) ⌝ }
 {
-    let a = put_field(out, at, 0, 2);
-    let b = put_field(out, a, body.phase, 1);
+    let after_id = put_field(out, at, 0, 2);
+    let after_flag = put_field(out, after_id, body.phase, 1);
     let phases = body.phases;
-    let c = put_all_phases(out, b, body.phase, mode, records, n, phases, codes, lens);
-    put_field(out, c, 0, 1)
+    let after_phases = put_all_phases(
+        out,
+        after_flag,
+        body.phase,
+        mode,
+        records,
+        n,
+        phases,
+        codes,
+        lens,
+    );
+    put_field(out, after_phases, 0, 1)
 }
 
 // At most 7.
@@ -130,8 +140,8 @@ fn put_announced(
         return at;
     }
     let body = part.body;
-    let a = put_body(out, at, mode, records, n, body, codes, lens);
-    put_field(out, a, part.value, at_most_seven(part.count))
+    let after_body = put_body(out, at, mode, records, n, body, codes, lens);
+    put_field(out, after_body, part.value, at_most_seven(part.count))
 }
 
 // esc_count, after a size of 15.
@@ -173,12 +183,12 @@ pub fn put_extension(
     if !on {
         return at;
     }
-    let a = put_field(out, at, x.size, 4);
-    let b = put_escape(out, a, x.size, x.esc);
+    let after_size = put_field(out, at, x.size, 4);
+    let after_esc = put_escape(out, after_size, x.size, x.esc);
     let part = x.part;
     put_announced(
         out,
-        b,
+        after_esc,
         mode,
         records,
         n,

@@ -31,11 +31,11 @@ fn put_fields(out: &mut [u8], at: usize, h: Header) -> usize
     requires { ⌜ Room 100 at (now out) ⌝ }
     ensures { λ r. ⌜ Wrote 9 (now (out .entry)) at (spellFields h) r (now (out .exit)) ⌝ }
 {
-    let a = put_field(out, at, h.iid, 1);
-    let b = put_mode(out, a, h.iid, h.iidmode);
-    let c = put_field(out, b, h.icc, 1);
-    let d = put_mode(out, c, h.icc, h.iccmode);
-    put_field(out, d, h.ext, 1)
+    let after_iid = put_field(out, at, h.iid, 1);
+    let after_iid_mode = put_mode(out, after_iid, h.iid, h.iidmode);
+    let after_icc = put_field(out, after_iid_mode, h.icc, 1);
+    let after_icc_mode = put_mode(out, after_icc, h.icc, h.iccmode);
+    put_field(out, after_icc_mode, h.ext, 1)
 }
 
 // The header.
@@ -43,11 +43,11 @@ pub fn put_header(out: &mut [u8], at: usize, h: Header) -> usize
     requires { ⌜ Room 120 at (now out) ⌝ }
     ensures { λ r. ⌜ Wrote 10 (now (out .entry)) at (spellHeader h) r (now (out .exit)) ⌝ }
 {
-    let a = put_field(out, at, h.there, 1);
+    let after_flag = put_field(out, at, h.there, 1);
     if h.there == 1 {
-        return put_fields(out, a, h);
+        return put_fields(out, after_flag, h);
     }
-    a
+    after_flag
 }
 
 // At most 4.
@@ -103,8 +103,8 @@ pub fn put_frame(out: &mut [u8], at: usize, f: Frame) -> usize
     ensures { λ r. ⌜ Wrote 23 (now (out .entry)) at (spellFrame f) r (now (out .exit)) ⌝ }
 {
     let n = f.envelopes;
-    let a = put_field(out, at, f.class, 1);
-    let b = put_field(out, a, count_index(f.class, n), 2);
+    let after_class = put_field(out, at, f.class, 1);
+    let after_index = put_field(out, after_class, count_index(f.class, n), 2);
     let borders = f.borders;
-    put_borders(out, b, f.class, n, borders)
+    put_borders(out, after_index, f.class, n, borders)
 }

@@ -28,15 +28,26 @@ fn put_levels(
         (setup .iid) (setup .iidmode) (state .iid) (contents .frame .envelopes) (contents .iid)) r (now (out .exit)) ⌝ }
 {
     let header = contents.header;
-    let a = fields::put_header(out, 0, header);
+    let after_header = fields::put_header(out, 0, header);
     let frame = contents.frame;
-    let b = fields::put_frame(out, a, frame);
+    let after_frame = fields::put_frame(out, after_header, frame);
     let n = frame.envelopes;
     let on = setup.iid;
     let mode = setup.iidmode;
     let rows = contents.iid;
     let rec = state.iid;
-    put_rows(out, b, Kind::Iid, on, mode, rec, n, rows, codes, lens)
+    put_rows(
+        out,
+        after_frame,
+        Kind::Iid,
+        on,
+        mode,
+        rec,
+        n,
+        rows,
+        codes,
+        lens,
+    )
 }
 
 // The contents of a payload, from the first bit on.
@@ -52,15 +63,36 @@ pub fn put_contents(
 {
     let before = state.setup;
     let header = contents.header;
-    let f = headers::setup_after(before, header);
-    let a = put_levels(out, state, f, contents, codes, lens);
+    let setup = headers::setup_after(before, header);
+    let after_levels = put_levels(out, state, setup, contents, codes, lens);
     let frame = contents.frame;
     let n = frame.envelopes;
     let rows = contents.icc;
     let rec = state.icc;
     let kind = Kind::Icc;
-    let b = put_rows(out, a, kind, f.icc, f.iccmode, rec, n, rows, codes, lens);
+    let after_coherences = put_rows(
+        out,
+        after_levels,
+        kind,
+        setup.icc,
+        setup.iccmode,
+        rec,
+        n,
+        rows,
+        codes,
+        lens,
+    );
     let records = payloads::phase_records(state);
     let x = contents.extension;
-    put_extension(out, b, f.ext, f.iidmode, records, n, x, codes, lens)
+    put_extension(
+        out,
+        after_coherences,
+        setup.ext,
+        setup.iidmode,
+        records,
+        n,
+        x,
+        codes,
+        lens,
+    )
 }
