@@ -74,7 +74,7 @@ put-next {t} {u} s at xs n ys m (e, l) (f, k) h = (
   rw (length-append xs ys, l, k),
 )
 
--- the same bytes, in other words
+-- bytes that were put, in other words
 pub put-as : {t : List ℕ} (s : List ℕ) (at : ℕ) (xs ys : List ℕ) (n m : ℕ) → Put s at xs n t → xs ≡ ys → n ≡ m → Put s at ys m t
 put-as s at xs ys n m (e, l) f g = (e ∙ ap (λ (z : List ℕ). over s at z) f, ap length (sym f) ∙ l ∙ g)
 

@@ -42,7 +42,7 @@ pub record Spelt {A : Type 0} (r : Reader A) (before : List Piece) (w : A → Li
   pub law : (s : List ℕ) (at end next : ℕ) (a : A) → r s at end ≡ got a next
       → (ps : List Piece) × (w a ≡ before ++ ps) × Holds s at ps × (next ≡ at + total ps) × ok a
 
--- the same law, told otherwise
+-- a law of spelling with other words for what is known
 pub told : {A : Type 0} {r : Reader A} {before after : List Piece} {w : A → List Piece} {ok ok′ : A → Type 0}
     → after ≡ before → ((a : A) → ok a → ok′ a) → Spelt r after w ok → Spelt r before w ok′
 told e f g = record {

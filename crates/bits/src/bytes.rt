@@ -11,7 +11,7 @@ pub fn low_byte(x: usize) -> u8
     (x % 256) as u8
 }
 
-// The same of a narrower number.
+// The lowest byte of a number of 32 bits.
 pub fn byte_of(x: u32) -> u8
     ensures { λ r. ⌜ r ≡ byteOf x ⌝ }
 {

@@ -62,6 +62,6 @@ partIn h s k =
 unfoldable pub partOf : List ℕ → ℕ → Part
 partOf s k = partIn (headerOf s) s k
 
--- its bytes
+-- the bytes of the k-th payload
 abbrev pub bytesOf : List ℕ → ℕ → List ℕ
 bytesOf s k = range s (offsetOf s k) (offsetOf s (k + 1))

@@ -66,7 +66,7 @@ fn put_value(line: &mut [u8], at: usize, place: usize, value: i16) -> usize {
     text::put_signed(line, at, value)
 }
 
-// Those of all lines.
+// The place and the value of every line that is not 0.
 fn put_values(line: &mut [u8], at: usize, lines: &[i16]) -> usize {
     let mut to = at;
     let mut i = 0;

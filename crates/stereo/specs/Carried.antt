@@ -38,7 +38,7 @@ phaseRecords f st n b = record {
   opd = recordAfter (eqb (b .phase) 1) (f .iidmode) (st .opd) n (lastPhases n (b .phases) .opd .indices);
 }
 
--- with what was in force
+-- the state after contents, with what is in force after their header
 unfoldable pub carriedIn : State → Contents → Setup → State
 carriedIn st c f = record {
   setup = f;

@@ -13,7 +13,7 @@ use Rattle.stereo.specs.declared.Contents.{Contents}
 abbrev pub across : List Row → Bool
 across rs = eqb (getD rs 0 noRow .time) 0
 
--- and so are the first phases, where there are any
+-- the first rows of the phases, where there are any, are across frequency
 unfoldable pub phasesAcross : Body → Bool
 phasesAcross b = not (eqb (b .phase) 1) ||
     (eqb (getD (b .phases) 0 noPhases .ipd .time) 0 && eqb (getD (b .phases) 0 noPhases .opd .time) 0)

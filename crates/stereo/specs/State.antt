@@ -23,7 +23,7 @@ unfoldable pub soundSetup : Setup → Bool
 soundSetup f =
     soundMode (f .iidmode) && soundMode (f .iccmode) && (not (f .iid) || isSent (f .iidmode)) && (not (f .icc) || isSent (f .iccmode))
 
--- and every index in range with zeros above the count
+-- a sound state: a sound set-up, and in each record every index in range with zeros above the count
 unfoldable pub sound : State → Bool
 sound st = soundSetup (st .setup) && soundRecord Iid (st .iid) && soundRecord Icc (st .icc) && soundRecord Ipd
     (st .ipd) && soundRecord Opd (st .opd)

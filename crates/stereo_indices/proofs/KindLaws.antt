@@ -156,7 +156,7 @@ few-at [] e i h = absurd (omega arith)
 few-at (t ∷ ts) e zero h = leb→le (t .count) 61 (and-left (leb (t .count) 61) (few ts) e)
 few-at (t ∷ ts) e (suc i) h = few-at ts (and-right (leb (t .count) 61) (few ts) e) i (omega arith)
 
--- and are among the 22
+-- the tables of differences are among the 22
 pub table-below : (k : Kind) (mode time : ℕ) → differenceNumber k mode time < 22
 unfolding differenceNumber firstNumber
 table-below k mode time = go k (eqb time 1)
@@ -175,7 +175,7 @@ table-below k mode time = go k (eqb time 1)
     go Ipd t = add 18 t (omega arith)
     go Opd t = add 20 t (omega arith)
 
--- the same table by name
+-- a table of differences by its number is the one by its name
 pub table-is : (k : Kind) (mode time : ℕ) → tableAt (differenceNumber k mode time) ≡ differenceTable k mode time
 unfolding differenceNumber firstNumber differenceTable
 table-is Iid mode time = go (fine mode) (eqb time 1)

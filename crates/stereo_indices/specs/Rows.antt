@@ -18,7 +18,7 @@ use Rattle.stereo_indices.specs.declared.Row.{Row}
 unfoldable pub noRow : Row
 noRow = record { time = 0; indices = zeros }
 
--- four of them
+-- four rows that are not sent
 unfoldable pub noRows : List Row
 noRows = replicate 4 noRow
 

@@ -24,7 +24,7 @@ pub fn no_row() -> Row
     Row { time: 0, indices }
 }
 
-// Four of them.
+// Four rows that were not sent.
 pub fn no_rows() -> [Row; 4]
     ensures { λ r. ⌜ r ≡ noRows ⌝ }
 {

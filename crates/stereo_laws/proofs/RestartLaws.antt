@@ -75,7 +75,7 @@ rows-agree k on mode h h′ n =
     (λ rs. give-gives λ a r qs e. first-across rs r qs a e) λ rs _. same-agree)
     same-agree
 
--- and so are the first phases
+-- the first phases are across frequency
 next-agree : (mode : ℕ) (ipd ipd′ opd opd′ : Record)
     → Agree (phasesNext mode ipd opd []) (phasesNext mode ipd′ opd′ []) (λ p. (p .ipd .time ≡ 0) × (p .opd .time ≡ 0))
 unfolding phasesIn

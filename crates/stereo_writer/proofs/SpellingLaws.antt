@@ -63,7 +63,7 @@ padded-spelt {w = w} N z g n =
 phase-back : (r e : ℕ) → e < 8 → ((r + e) % 8 + 8 - r % 8) % 8 ≡ e
 phase-back r e h = omega arith
 
--- and of the others
+-- the entry of a difference that is no phase comes back
 entry-back : (p : ℤ) (e b : ℕ) → natAbs (p +ℤ (pos e -ℤ pos b) -ℤ p +ℤ pos b) ≡ e
 entry-back p e b =
     ap natAbs (ap (λ (z : ℤ). z -ℤ p +ℤ pos b) (+ℤ-comm p (pos e -ℤ pos b))

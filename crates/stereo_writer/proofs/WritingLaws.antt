@@ -71,7 +71,7 @@ read-can st s n c e =
     (contents-right .self) s
     (8 * length s) n c (whole-got (payload st) s n c e .0)
 
--- and are spelled in the bits that they used
+-- contents that were read are spelled in the bits that they used
 pub read-bits : (st : State) (s : List ℕ) (n : ℕ) (c : Contents) → whole (payload st) s ≡ got c n
     → (n ≡ total (spelling st c)) × ((i : ℕ) → i < n → bitAt (packed (spelling st c)) i ≡ bitAt s i)
 read-bits st s n c e =
