@@ -7,7 +7,7 @@ ghost use Rattle.bits.specs.InnerAnswers.{endedAnswer};
 ghost use Rattle.tables.specs.Tables.{Tables};
 ghost use Rattle.channel_lines.specs.InnerBands.{Rising, windowLines, mostBands};
 ghost use Rattle.channel_lines.specs.Books.{bookOf};
-ghost use Rattle.channel_lines.specs.Grouping.{groupsOf};
+ghost use Rattle.channel_lines.specs.Grouping.{groupsAfter, groupsOf};
 ghost use Rattle.channel_lines.specs.Spectrum.{put, band, windowsBand, groupBand, groupLines};
 use crate::books::book_of;
 use crate::grouping::group_length;
@@ -80,7 +80,7 @@ fn read_band(
     Ended::At(place)
 }
 
-// A band of the n windows from a window on.
+// A band of a book's number, in each window of a group.
 fn read_windows(
     s: &[u8],
     at: usize,
@@ -90,28 +90,19 @@ fn read_windows(
     number: u8,
     first: usize,
     width: usize,
-    from: usize,
-    n: usize,
+    group: Group,
     lines: &mut [i16; 1024],
 ) -> Ended
-    requires { ⌜ (end ≤ 8 * length (now s)) × Tables (now codes) (now lens) × (128 * (from + n) + (first + width) ≤ 1152) ⌝ }
+    requires { ⌜ (end ≤ 8 * length (now s)) × Tables (now codes) (now lens)
+        × (128 * (group .from + group .windows) + (first + width) ≤ 1152) ⌝ }
     ensures { λ r. ⌜ endedAnswer r (now (lines .exit))
-        ≡ windowsBand number first width from n (now (lines .entry)) (now (s .entry)) at end ⌝ }
+        ≡ windowsBand number first width (group .from) (group .windows) (now (lines .entry)) (now (s .entry)) at end ⌝ }
 {
     let mut place = at;
-    let mut v = from;
-    while v < from + n {
-        let read = read_band(
-            s,
-            place,
-            end,
-            codes,
-            lens,
-            number,
-            128 * v + first,
-            width,
-            lines,
-        );
+    let mut v = group.from;
+    while v < group.from + group.windows {
+        let line = 128 * v + first;
+        let read = read_band(s, place, end, codes, lens, number, line, width, lines);
         let Ended::At(next) = read else {
             return read;
         };
@@ -147,21 +138,7 @@ fn read_group_band(
     let number = books[group.base + b];
     let first = edges[b];
     let width = edges[b + 1] - first;
-    let from = group.from;
-    let n = group.windows;
-    read_windows(
-        s,
-        at,
-        end,
-        codes,
-        lens,
-        number,
-        first,
-        width,
-        from,
-        n,
-        lines,
-    )
+    read_windows(s, at, end, codes, lens, number, first, width, group, lines)
 }
 
 // The lines of a group of windows.
@@ -200,6 +177,45 @@ fn read_group(
     Ended::At(place)
 }
 
+// The lines of the groups of eight short windows.
+fn read_groups(
+    s: &[u8],
+    start: usize,
+    end: usize,
+    codes: &[u32],
+    lens: &[u8],
+    edges: &[usize],
+    max_sfb: usize,
+    grouping: u8,
+    books: &[u8; 120],
+    lines: &mut [i16; 1024],
+) -> Ended
+    requires { ⌜ (end ≤ 8 * length (now s))
+        × Tables (now codes) (now lens)
+        × Rising (now edges) 128
+        × («max_sfb» < length (now edges))
+        × («max_sfb» ≤ 15) ⌝ }
+    ensures { λ r. ⌜ endedAnswer r (now (lines .exit))
+        ≡ groupLines (now (edges .entry)) «max_sfb» (now (books .entry)) (groupsAfter 8 grouping) 0 0
+        (now (lines .entry)) (now (s .entry)) start end ⌝ }
+{
+    let mut at = start;
+    let mut base = 0;
+    let mut from = 0;
+    while from < 8 {
+        let windows = group_length(grouping, from);
+        let group = group_at(base, from, windows);
+        let read = read_group(s, at, end, codes, lens, edges, max_sfb, books, group, lines);
+        let Ended::At(next) = read else {
+            return read;
+        };
+        at = next;
+        base += max_sfb;
+        from += windows;
+    }
+    Ended::At(at)
+}
+
 // The lines of all groups: of eight short windows, or of one long one.
 pub fn read_lines(
     s: &[u8],
@@ -223,34 +239,20 @@ pub fn read_lines(
         ≡ groupLines (now (edges .entry)) «max_sfb» (now (books .entry)) (groupsOf short grouping) 0 0
         (now (lines .entry)) (now (s .entry)) at end ⌝ }
 {
-    if !short {
-        let only = group_at(0, 0, 1);
-        return read_group(s, at, end, codes, lens, edges, max_sfb, books, only, lines);
-    }
-    let mut place = at;
-    let mut base = 0;
-    let mut from = 0;
-    while from < 8 {
-        let n = group_length(grouping, from);
-        let group = group_at(base, from, n);
-        let read = read_group(
+    if short {
+        return read_groups(
             s,
-            place,
+            at,
             end,
             codes,
             lens,
             edges,
             max_sfb,
+            grouping,
             books,
-            group,
             lines,
         );
-        let Ended::At(next) = read else {
-            return read;
-        };
-        place = next;
-        base += max_sfb;
-        from += n;
     }
-    Ended::At(place)
+    let only = group_at(0, 0, 1);
+    read_group(s, at, end, codes, lens, edges, max_sfb, books, only, lines)
 }

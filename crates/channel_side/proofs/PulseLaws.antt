@@ -1,17 +1,16 @@
 -- What the code of the pulses cites: a pulse by what its fields are, and what is left of the loop.
 -- Assumes nothing.
 use Prim.Native.Nat.{ℕ, zero, suc, _+_, _-_, _<_, _≤_}
-use mathlib.Core.Path.{_≡_, sym, _∙_, ap}
+use mathlib.Core.Path.{_≡_, _∙_, ap}
 use mathlib.Core.List.{List}
 use mathlib.Core.Bool.{Bool, true, false}
 use native.Mathlib.Omega.{arith}
 use lib.Dec.{ltb}
 use lib.ListN.{length, getD, set, replicate}
 use borrow.Author.Tests.{ltb-true}
-use Rattle.bits.specs.Reader.{Answer, got, refused, Reader, give, _>>=_}
+use Rattle.bits.specs.Reader.{got, refused, Reader, give, _>>=_}
 use Rattle.bits.specs.Field.{field}
 use Rattle.bits.specs.Loop as loop
-use Rattle.bits.specs.declared.Field.{Field}
 use Rattle.bits.proofs.Lawful.{tested-got}
 use Rattle.bits.proofs.Taken.{field-below}
 use Rattle.channel_lines.specs.Bands.{bands, bandCount, firstLine}
@@ -19,17 +18,13 @@ use Rattle.channel_lines.specs.InnerBands.{windowLines}
 use Rattle.channel_lines.proofs.BandLaws.{bands-rising, bands-some}
 use Rattle.bits.proofs.LoopLaws.{counted-start, counted-more, counted-stop, counted-done}
 use Rattle.channel_side.proofs.MostLaws.{set-most}
-use Rattle.channel_side.specs.InnerAnswers.{laid, counted, pulseAnswer, Blank, Low}
-use Rattle.channel_side.specs.Pulses.{Laid, Pulses, pulse, eachPulse, startBand, pulseData, noPulses, pulses}
-
--- the answer, by the variant that it is
-pub pulse-is : (ls am ps : List ℕ) {f v : Field} {x : Answer Laid} → pulseAnswer f ls am ps ≡ x → f ≡ v → x ≡ pulseAnswer v ls am ps
-pulse-is ls am ps e q = sym e ∙ ap (λ (y : Field). pulseAnswer y ls am ps) q
+use Rattle.channel_side.specs.InnerAnswers.{Low, Applicable}
+use Rattle.channel_side.specs.Pulses.{Laid, Pulses, noneLaid, allLaid, pulse, eachPulse, startBand, pulseData, noPulses, pulses}
 
 pub low-set : (xs : List ℕ) (k v : ℕ) → v ≤ 1023 → Low xs → Low (set xs k v)
 low-set xs k v h l = record { at = set-most 1023 xs k v h (l .at) }
 
-low-zeros : Low (replicate 4 0)
+pub low-zeros : Low (replicate 4 0)
 low-zeros = record { at = zeros }
   where
     zeros : (k : ℕ) → getD (replicate 4 0) k 0 ≤ 1023
@@ -39,35 +34,30 @@ low-zeros = record { at = zeros }
     zeros (suc (suc (suc zero))) = omega arith
     zeros (suc (suc (suc (suc k)))) = omega arith
 
-pub low-blank : {lines amplitudes places : List ℕ} → Blank lines amplitudes places → Low lines
-low-blank b = rw (b .0) low-zeros
+-- no pulses can be applied
+pub none-applicable : {x : Pulses} → x ≡ noPulses → Applicable x
+none-applicable e = rw e (omega arith, low-zeros)
 
 -- what is left of the loop
-unfoldable pub rest : ℕ → ℕ → ℕ → List ℕ → List ℕ → List ℕ → Reader Pulses
-rest k n last ls am ps =
-    loop.counted k (n - k) pulse (laid last ls am ps) >>= λ x. give (counted n (x .lines) (x .amplitudes) (x .places))
+unfoldable pub rest : ℕ → ℕ → Laid → Reader Pulses
+rest k n x = loop.counted k (n - k) pulse x >>= λ y. give (allLaid n y)
 
-pub rest-start : (n line : ℕ) (ls am ps s : List ℕ) (at end : ℕ) → Blank ls am ps
-    → eachPulse n line s at end ≡ rest 0 n line ls am ps s at end
+pub rest-start : (n line : ℕ) (s : List ℕ) (at end : ℕ) → eachPulse n line s at end ≡ rest 0 n (noneLaid line) s at end
 unfolding eachPulse rest
-rest-start n line ls am ps s at end b =
-    rw (b .0, b .1, b .2, counted-start pulse n (laid line (replicate 4 0) (replicate 4 0) (replicate 4 0)) s at end)
+rest-start n line s at end = rw (counted-start pulse n (noneLaid line) s at end)
 
-module _ (n last : ℕ) (ls am ps s : List ℕ) (at end : ℕ) where
-  pub rest-stop : (k r p : ℕ) → k < n → pulse k (laid last ls am ps) s at end ≡ refused r p
-      → rest k n last ls am ps s at end ≡ refused r p
+module _ (n : ℕ) (x : Laid) (s : List ℕ) (at end : ℕ) where
+  pub rest-stop : (k r p : ℕ) → k < n → pulse k x s at end ≡ refused r p → rest k n x s at end ≡ refused r p
   unfolding rest
-  rest-stop k r p h e = rw (counted-stop pulse k n (laid last ls am ps) s at end r p h e)
+  rest-stop k r p h e = rw (counted-stop pulse k n x s at end r p h e)
 
-  pub rest-more : (k l : ℕ) (ls′ am′ ps′ : List ℕ) (m : ℕ) → k < n → pulse k (laid last ls am ps) s at end ≡ got (laid l ls′ am′ ps′) m
-      → rest k n last ls am ps s at end ≡ rest (k + 1) n l ls′ am′ ps′ s m end
+  pub rest-more : (k : ℕ) (y : Laid) (m : ℕ) → k < n → pulse k x s at end ≡ got y m → rest k n x s at end ≡ rest (k + 1) n y s m end
   unfolding rest
-  rest-more k l ls′ am′ ps′ m h e = rw (counted-more pulse k n (laid last ls am ps) (laid l ls′ am′ ps′) s at end m h e)
+  rest-more k y m h e = rw (counted-more pulse k n x y s at end m h e)
 
-  pub rest-done : (k : ℕ) → n ≤ k
-      → rest k n last ls am ps s at end ≡ got (counted n ls am ps) at
+  pub rest-done : (k : ℕ) → n ≤ k → rest k n x s at end ≡ got (allLaid n x) at
   unfolding rest
-  rest-done k h = rw (counted-done pulse k n (laid last ls am ps) s at end h)
+  rest-done k h = rw (counted-done pulse k n x s at end h)
 
 -- a start band's first line lies in the window
 pub start-line : (index : ℕ) (s : List ℕ) (at end b m : ℕ) → startBand index s at end ≡ got b m

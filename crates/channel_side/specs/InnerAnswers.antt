@@ -49,38 +49,17 @@ factorAnswer (Refused n place) values = refused n place
 abbrev pub Small : Field → Type 0
 Small = Known (λ last. last ≤ 255)
 
--- pulses in the lent arrays: after a last line, and so many
-abbrev pub laid : ℕ → List ℕ → List ℕ → List ℕ → Laid
-laid last lines amplitudes places = record { last = last; lines = lines; amplitudes = amplitudes; places = places }
-
-abbrev pub counted : ℕ → List ℕ → List ℕ → List ℕ → Pulses
-counted n lines amplitudes places = record { count = n; lines = lines; amplitudes = amplitudes; places = places }
-
--- arrays in which no pulse is
-abbrev pub Blank : List ℕ → List ℕ → List ℕ → Type 0
-Blank lines amplitudes places = (lines ≡ replicate 4 0) × (amplitudes ≡ replicate 4 0) × (places ≡ replicate 4 0)
-
--- the line of a pulse, with what the lent arrays hold afterwards
-abbrev pub pulseAnswer : Field → List ℕ → List ℕ → List ℕ → Answer Laid
-pulseAnswer (Got last next) lines amplitudes places = got (laid last lines amplitudes places) next
-pulseAnswer (Refused n place) lines amplitudes places = refused n place
-
--- how many pulses there are, with what the lent arrays hold afterwards
-abbrev pub pulsesAnswer : Field → List ℕ → List ℕ → List ℕ → Answer Pulses
-pulsesAnswer (Got count next) lines amplitudes places = got (counted count lines amplitudes places) next
-pulsesAnswer (Refused n place) lines amplitudes places = refused n place
-
 -- no line is above 1023
 pub record Low (lines : List ℕ) : Type 0 where
   pub at : (k : ℕ) → getD lines k 0 ≤ 1023
 
--- a pulse's line is at most 1023
-abbrev pub Reached : Field → Type 0
-Reached = Known (λ line. line ≤ 1023)
+-- pulses so far: none is past the last line of a window
+abbrev pub Within : Laid → Type 0
+Within x = (x .last ≤ 1024) × Low (x .lines)
 
--- there are four pulses at most
-abbrev pub Few : Field → Type 0
-Few = Known (λ count. count ≤ 4)
+-- four pulses at most, none past the last line of a window
+abbrev pub Applicable : Pulses → Type 0
+Applicable x = (x .count ≤ 4) × Low (x .lines)
 
 -- what a reader that reads nothing answers, whatever the bytes and the end are
 abbrev pub Always : {A : Type 0} → Ended → A → Reader A → ℕ → Type 0

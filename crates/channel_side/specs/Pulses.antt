@@ -11,20 +11,16 @@ use Rattle.bits.specs.Field.{field}
 use Rattle.bits.specs.Loop.{counted}
 use Rattle.bits.specs.Places.{here}
 use Rattle.channel_lines.specs.Bands.{bands, bandCount, firstLine}
+pub use Rattle.channel_side.specs.declared.pulses.Laid.{Laid}
+pub use Rattle.channel_side.specs.declared.pulses.Pulses.{Pulses}
 
--- how many pulses there are, and in four places the line, the amplitude and the place of each
-pub record Pulses : Type 0 where
-  pub count : ℕ
-  pub lines : List ℕ
-  pub amplitudes : List ℕ
-  pub places : List ℕ
+-- no pulse so far: the first offset counts from a line
+abbrev pub noneLaid : ℕ → Laid
+noneLaid line = record { last = line; lines = replicate 4 0; amplitudes = replicate 4 0; places = replicate 4 0 }
 
--- pulses so far: the line that the next offset counts from; and in four places the line, the amplitude and the place of each
-pub record Laid : Type 0 where
-  pub last : ℕ
-  pub lines : List ℕ
-  pub amplitudes : List ℕ
-  pub places : List ℕ
+-- so many pulses, as they are laid
+abbrev pub allLaid : ℕ → Laid → Pulses
+allLaid n x = record { count = n; lines = x .lines; amplitudes = x .amplitudes; places = x .places }
 
 -- the k-th pulse: offset in 5 bits, 25 where its line is above 1023; amplitude in 4 bits
 unfoldable pub pulse : ℕ → Laid → Reader Laid
@@ -42,8 +38,8 @@ pulse k x = do
 -- n pulses, whose offsets count from a line
 unfoldable pub eachPulse : ℕ → ℕ → Reader Pulses
 eachPulse n line = do
-  x ← counted 0 n pulse (record { last = line; lines = replicate 4 0; amplitudes = replicate 4 0; places = replicate 4 0 })
-  give (record { count = n; lines = x .lines; amplitudes = x .amplitudes; places = x .places })
+  x ← counted 0 n pulse (noneLaid line)
+  give (allLaid n x)
 
 -- the start band in 6 bits, 25 where there is no such band
 unfoldable pub startBand : ℕ → Reader ℕ

@@ -2,81 +2,153 @@
 ghost use mathlib.Core.Path.{_≡_};
 ghost use Prim.Native.Nat.{_+_, _*_, _≤_, _<_};
 ghost use mathlib.Core.Bool.{false};
-ghost use lib.ListN.{length, getD};
+ghost use lib.ListN.{length, getD, set};
 ghost use lib.IntN.{pos};
 ghost use Rattle.bits.specs.InnerAnswers.{fieldAnswer, endedAnswer};
 ghost use Rattle.channel_lines.specs.Bands.{bands};
-ghost use Rattle.channel_side.specs.InnerAnswers.{laid, counted, pulseAnswer, pulsesAnswer, Blank, Low, Reached, Few, Always};
-ghost use Rattle.channel_side.specs.Pulses.{pulse, eachPulse, startBand, pulseData, pulses, pulsed, changed, applyPulses};
+ghost use Rattle.channel_side.specs.InnerAnswers.{Within, Applicable, Always};
+ghost use Rattle.channel_side.specs.Pulses.{noneLaid, allLaid, pulse, eachPulse, startBand, pulseData, noPulses, pulses};
+ghost use Rattle.channel_side.specs.Pulses.{pulsed, changed, applyPulses};
 use bits::Ended;
 use bits::Field;
 
-// The k-th pulse, whose offset counts from a line: its own line.
-fn read_pulse(
-    s: &[u8],
-    at: usize,
-    end: usize,
-    k: usize,
-    last: u32,
-    lines: &mut [u32; 4],
-    amplitudes: &mut [u8; 4],
-    places: &mut [usize; 4],
-) -> Field
-    requires { ⌜ (end ≤ 8 * length (now s)) × (k < 4) × (last ≤ 1024) × Low (now lines) ⌝ }
-    ensures { λ r. ⌜ (pulseAnswer r (now (lines .exit)) (now (amplitudes .exit)) (now (places .exit))
-        ≡ pulse k (laid last (now (lines .entry)) (now (amplitudes .entry)) (now (places .entry))) (now (s .entry)) at end)
-        × Low (now (lines .exit))
-        × Reached r ⌝ }
+// The pulses of a stream: how many there are, and in four places the line, the amplitude and the place of each.
+pub struct Pulses {
+    pub count: usize,
+    pub lines: [u32; 4],
+    pub amplitudes: [u8; 4],
+    pub places: [usize; 4],
+}
+
+// Pulses that were read, and how the reading ended.
+pub struct ReadPulses {
+    pub ended: Ended,
+    pub pulses: Pulses,
+}
+
+// Pulses so far: the line that the next offset counts from; and in four places the line, the amplitude and the place of each.
+pub struct Laid {
+    pub last: u32,
+    pub lines: [u32; 4],
+    pub amplitudes: [u8; 4],
+    pub places: [usize; 4],
+}
+
+// Pulses so far, and how the reading of the newest ended.
+pub struct ReadLaid {
+    pub ended: Ended,
+    pub laid: Laid,
+}
+
+// No pulse so far: the first offset counts from a line.
+fn none_laid(line: u32) -> Laid
+    ensures { λ r. ⌜ r ≡ noneLaid line ⌝ }
+{
+    Laid {
+        last: line,
+        lines: [0u32; 4],
+        amplitudes: [0u8; 4],
+        places: [0usize; 4],
+    }
+}
+
+// The k-th pulse is laid: its line, its amplitude and its place.
+fn lay(laid: Laid, k: usize, line: u32, amplitude: u8, place: usize) -> Laid
+    requires { ⌜ k < 4 ⌝ }
+    ensures { λ r. ⌜ r ≡ record {
+      last = line;
+      lines = set (laid .lines) k line;
+      amplitudes = set (laid .amplitudes) k amplitude;
+      places = set (laid .places) k place;
+    } ⌝ }
+{
+    let mut lines = laid.lines;
+    let mut amplitudes = laid.amplitudes;
+    let mut places = laid.places;
+    lines[k] = line;
+    amplitudes[k] = amplitude;
+    places[k] = place;
+    Laid {
+        last: line,
+        lines,
+        amplitudes,
+        places,
+    }
+}
+
+// The k-th pulse, whose offset counts from the last line.
+fn read_pulse(s: &[u8], at: usize, end: usize, k: usize, laid: Laid) -> ReadLaid
+    requires { ⌜ (end ≤ 8 * length (now s)) × (k < 4) × Within laid ⌝ }
+    ensures { λ r. ⌜ (endedAnswer (r .ended) (r .laid) ≡ pulse k laid (now (s .entry)) at end) × Within (r .laid) ⌝ }
 {
     let offset_field = bits::read_field(s, at, end, 5);
     let Field::Got(offset, after_offset) = offset_field else {
-        return offset_field;
+        let ended = bits::passed_on(offset_field);
+        return ReadLaid { ended, laid };
     };
-    let line = last + offset;
+    let line = laid.last + offset;
     if 1023 < line {
-        return Field::Refused(25, at);
+        let ended = Ended::Refused(25, at);
+        return ReadLaid { ended, laid };
     }
     let amplitude_field = bits::read_field(s, after_offset, end, 4);
-    let Field::Got(amplitude, after_amplitude) = amplitude_field else {
-        return amplitude_field;
+    let ended = bits::passed_on(amplitude_field);
+    let Field::Got(amplitude, _) = amplitude_field else {
+        return ReadLaid { ended, laid };
     };
-    lines[k] = line;
-    amplitudes[k] = amplitude as u8;
-    places[k] = at;
-    Field::Got(line, after_amplitude)
+    let laid = lay(laid, k, line, amplitude as u8, at);
+    ReadLaid { ended, laid }
 }
 
-// n pulses, whose offsets count from a line, into arrays of zeros: how many they are.
-fn read_each(
-    s: &[u8],
-    at: usize,
-    end: usize,
-    n: u32,
-    line: u32,
-    lines: &mut [u32; 4],
-    amplitudes: &mut [u8; 4],
-    places: &mut [usize; 4],
-) -> Field
-    requires { ⌜ (end ≤ 8 * length (now s)) × (n ≤ 4) × (line ≤ 1024)
-        × Blank (now lines) (now amplitudes) (now places) ⌝ }
-    ensures { λ r. ⌜ (pulsesAnswer r (now (lines .exit)) (now (amplitudes .exit)) (now (places .exit))
-        ≡ eachPulse n line (now (s .entry)) at end)
-        × Low (now (lines .exit))
-        × Few r ⌝ }
+// No pulses, where the reading ended.
+fn no_pulses(ended: Ended) -> ReadPulses
+    ensures { λ r. ⌜ (r .ended ≡ ended) × (r .pulses ≡ noPulses) ⌝ }
 {
-    let mut last = line;
+    let pulses = Pulses {
+        count: 0,
+        lines: [0u32; 4],
+        amplitudes: [0u8; 4],
+        places: [0usize; 4],
+    };
+    ReadPulses { ended, pulses }
+}
+
+// So many pulses, as they are laid.
+fn all_laid(count: usize, laid: Laid) -> Pulses
+    ensures { λ r. ⌜ r ≡ allLaid count laid ⌝ }
+{
+    let lines = laid.lines;
+    let amplitudes = laid.amplitudes;
+    let places = laid.places;
+    Pulses {
+        count,
+        lines,
+        amplitudes,
+        places,
+    }
+}
+
+// n pulses, whose offsets count from a line.
+fn read_each(s: &[u8], at: usize, end: usize, n: usize, line: u32) -> ReadPulses
+    requires { ⌜ (end ≤ 8 * length (now s)) × (n ≤ 4) × (line ≤ 1024) ⌝ }
+    ensures { λ r. ⌜ (endedAnswer (r .ended) (r .pulses) ≡ eachPulse n line (now (s .entry)) at end) × Applicable (r .pulses) ⌝ }
+{
+    let mut laid = none_laid(line);
     let mut place = at;
-    let mut k: u32 = 0;
+    let mut k = 0;
     while k < n {
-        let pulse = read_pulse(s, place, end, k as usize, last, lines, amplitudes, places);
-        let Field::Got(own, next) = pulse else {
-            return pulse;
+        let read = read_pulse(s, place, end, k, laid);
+        let ended = read.ended;
+        let Ended::At(next) = ended else {
+            return no_pulses(ended);
         };
-        last = own;
+        laid = read.laid;
         place = next;
         k += 1;
     }
-    Field::Got(n, place)
+    let ended = Ended::At(place);
+    let pulses = all_laid(n, laid);
+    ReadPulses { ended, pulses }
 }
 
 // The start band, which an index has to have for long windows.
@@ -94,46 +166,24 @@ fn read_start(s: &[u8], at: usize, end: usize, index: u8) -> Field
     band_field
 }
 
-// The pulses that follow the flag, with the bands of long windows, into arrays of zeros: how many they are.
-fn read_data(
-    s: &[u8],
-    at: usize,
-    end: usize,
-    index: u8,
-    edges: &[usize],
-    lines: &mut [u32; 4],
-    amplitudes: &mut [u8; 4],
-    places: &mut [usize; 4],
-) -> Field
-    requires { ⌜ (end ≤ 8 * length (now s)) × (now edges ≡ bands index false)
-        × Blank (now lines) (now amplitudes) (now places) ⌝ }
-    ensures { λ r. ⌜ (pulsesAnswer r (now (lines .exit)) (now (amplitudes .exit)) (now (places .exit))
-        ≡ pulseData index (now (s .entry)) at end)
-        × Low (now (lines .exit))
-        × Few r ⌝ }
+// The pulses that follow the flag, with the bands of long windows.
+fn read_data(s: &[u8], at: usize, end: usize, index: u8, edges: &[usize]) -> ReadPulses
+    requires { ⌜ (end ≤ 8 * length (now s)) × (now edges ≡ bands index false) ⌝ }
+    ensures { λ r. ⌜ (endedAnswer (r .ended) (r .pulses) ≡ pulseData index (now (s .entry)) at end) × Applicable (r .pulses) ⌝ }
 {
     let count_field = bits::read_field(s, at, end, 2);
     let Field::Got(less, after_count) = count_field else {
-        return count_field;
+        return no_pulses(bits::passed_on(count_field));
     };
     let start_field = read_start(s, after_count, end, index);
     let Field::Got(start, after_start) = start_field else {
-        return start_field;
+        return no_pulses(bits::passed_on(start_field));
     };
     let line = edges[start as usize] as u32;
-    read_each(
-        s,
-        after_start,
-        end,
-        less + 1,
-        line,
-        lines,
-        amplitudes,
-        places,
-    )
+    read_each(s, after_start, end, less as usize + 1, line)
 }
 
-// The pulse flag and the pulses, with the bands of the windows, into arrays of zeros: how many they are.
+// The pulse flag and the pulses, with the bands of the windows.
 pub fn read_pulses(
     s: &[u8],
     at: usize,
@@ -141,28 +191,21 @@ pub fn read_pulses(
     index: u8,
     short: bool,
     edges: &[usize],
-    lines: &mut [u32; 4],
-    amplitudes: &mut [u8; 4],
-    places: &mut [usize; 4],
-) -> Field
-    requires { ⌜ (end ≤ 8 * length (now s)) × (now edges ≡ bands index short)
-        × Blank (now lines) (now amplitudes) (now places) ⌝ }
-    ensures { λ r. ⌜ (pulsesAnswer r (now (lines .exit)) (now (amplitudes .exit)) (now (places .exit))
-        ≡ pulses index short (now (s .entry)) at end)
-        × Low (now (lines .exit))
-        × Few r ⌝ }
+) -> ReadPulses
+    requires { ⌜ (end ≤ 8 * length (now s)) × (now edges ≡ bands index short) ⌝ }
+    ensures { λ r. ⌜ (endedAnswer (r .ended) (r .pulses) ≡ pulses index short (now (s .entry)) at end) × Applicable (r .pulses) ⌝ }
 {
     let flag_field = bits::read_field(s, at, end, 1);
     let Field::Got(flag, after_flag) = flag_field else {
-        return flag_field;
+        return no_pulses(bits::passed_on(flag_field));
     };
     if flag != 1 {
-        return Field::Got(0, after_flag);
+        return no_pulses(Ended::At(after_flag));
     }
     if short {
-        return Field::Refused(25, at);
+        return no_pulses(Ended::Refused(25, at));
     }
-    read_data(s, after_flag, end, index, edges, lines, amplitudes, places)
+    read_data(s, after_flag, end, index, edges)
 }
 
 // A line after a pulse.
@@ -198,22 +241,17 @@ fn apply_pulse(
     Ended::At(at)
 }
 
-// The first n pulses are applied in order.
-pub fn apply_pulses(
-    at: usize,
-    n: usize,
-    targets: &[u32; 4],
-    amplitudes: &[u8; 4],
-    places: &[usize; 4],
-    lines: &mut [i16; 1024],
-) -> Ended
-    requires { ⌜ (n ≤ 4) × Low (now targets) ⌝ }
-    ensures { λ r. ⌜ Always r (now (lines .exit))
-        (applyPulses (counted n (now (targets .entry)) (now (amplitudes .entry)) (now (places .entry))) (now (lines .entry))) at ⌝ }
+// The pulses are applied in order.
+pub fn apply_pulses(at: usize, pulses: Pulses, lines: &mut [i16; 1024]) -> Ended
+    requires { ⌜ Applicable pulses ⌝ }
+    ensures { λ r. ⌜ Always r (now (lines .exit)) (applyPulses pulses (now (lines .entry))) at ⌝ }
 {
+    let targets = pulses.lines;
+    let amplitudes = pulses.amplitudes;
+    let places = pulses.places;
     let mut place = at;
     let mut k = 0;
-    while k < n {
+    while k < pulses.count {
         let applied = apply_pulse(place, targets[k] as usize, amplitudes[k], places[k], lines);
         let Ended::At(next) = applied else {
             return applied;
