@@ -13,3 +13,4 @@ pub mod Writable
 pub mod InnerAnswers
 pub mod Bytes
 pub mod Calls
+pub mod Sampling

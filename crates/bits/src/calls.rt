@@ -1,6 +1,7 @@
 // What every call judges before anything is read.
 ghost use mathlib.Core.Path.{_≡_};
 ghost use Rattle.bits.specs.Calls.{callRefusal};
+ghost use Rattle.bits.specs.Sampling.{knownIndex};
 
 // What is judged of a range and of room for an answer: a refusal's number, or 0.
 pub fn call_refusal(size: usize, start: usize, end: usize, need: usize, room: usize) -> u32
@@ -16,4 +17,20 @@ pub fn call_refusal(size: usize, start: usize, end: usize, need: usize, room: us
         return 2;
     }
     0
+}
+
+// Whether a sampling index is one that streams have.
+pub fn is_known_index(index: usize) -> bool
+    ensures { λ r. ⌜ r ≡ knownIndex index ⌝ }
+{
+    if index == 3 {
+        return true;
+    }
+    if index == 4 {
+        return true;
+    }
+    if index == 6 {
+        return true;
+    }
+    index == 7
 }

@@ -16,7 +16,7 @@ use Rattle.channel_side.specs.Window.{windowSequence, maxSfbOf, groupingOf, win
 use Rattle.channel_side.specs.Sections.{increment, sectionLength, sectionBook, fill, section, groupSections, widthOf, groupBooks, sections}
 use Rattle.channel_side.specs.Factors.{factor, bandFactor, firstFactors, scaleFactors}
 use Rattle.channel_side.specs.Pulses.{pulse, eachPulse, startBand, pulseData, pulses, pulsed, changed, applyPulse, applyPulses}
-use Rattle.channel.specs.Stream.{headOf, unpulsed, codedOf, streamAfter, stream}
+use Rattle.channel.specs.Stream.{headOf, noTools, unpulsed, codedOf, streamWith, streamAfter, stream}
 
 unfoldable pub all : Unit {0}
 unfolding bitAt bitsFrom field zeroBit counted turns while oneField here ended whole fits cutOff scan word ones magnitude escape
@@ -24,5 +24,5 @@ unfolding bitAt bitsFrom field zeroBit counted turns while oneField here ended w
     bookOf spectralWord digit signed value escapeAt escaped tuple put bandWord band windowsBand groupBand groupLines spectrum
     windowSequence maxSfbOf groupingOf windowBands window increment sectionLength sectionBook fill section groupSections widthOf
     groupBooks sections factor bandFactor firstFactors scaleFactors pulse eachPulse startBand pulseData pulses pulsed changed
-    applyPulse applyPulses headOf unpulsed codedOf streamAfter stream
+    applyPulse applyPulses headOf noTools unpulsed codedOf streamWith streamAfter stream
 all = tt

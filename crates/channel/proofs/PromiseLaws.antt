@@ -11,7 +11,8 @@ use lib.ListN.{length, take, drop}
 use Rattle.bits.specs.Reader.{got, refused, Reader, pick}
 use Rattle.bits.specs.Payload.{range, ended, whole}
 use Rattle.channel.specs.Stream.{stream}
-use Rattle.channel.specs.Promise.{channelCallRefusal, known, channel}
+use Rattle.channel.specs.Promise.{channelCallRefusal, channel}
+use Rattle.bits.specs.Sampling.{knownIndex}
 
 -- what is well where nothing is judged wrong
 pub refusal-well : (size start end index lines factors books : ℕ) → channelCallRefusal size start end index lines factors books ≡ 0
@@ -22,7 +23,7 @@ refusal-well size start end index lines factors books e =
   where
     go : (a : Bool) → leb start end ≡ a → (b : Bool) → leb end size ≡ b → (c : Bool) → leb 1024 lines ≡ c → (d : Bool)
         → leb 120 factors ≡ d → (f : Bool)
-        → leb 120 books ≡ f → _≡_ {A = ℕ} (pick (a && b) (pick (c && d && f) (pick (known index) 0 3) 2) 1) 0
+        → leb 120 books ≡ f → _≡_ {A = ℕ} (pick (a && b) (pick (c && d && f) (pick (knownIndex index) 0 3) 2) 1) 0
         → (start ≤ end) × (end ≤ size) × (1024 ≤ lines) × (120 ≤ factors) × (120 ≤ books)
     go true p true q true r true s true t e = (leb-true _ _ p, leb-true _ _ q, leb-true _ _ r, leb-true _ _ s, leb-true _ _ t)
     go false p b q c r d s f t e = absurd (omega arith)

@@ -1,30 +1,25 @@
 -- What the code of the whole stream cites: its parts one after another, by what each of them answered.
 -- Assumes nothing.
 use Prim.Native.Nat.{ℕ, _*_}
-use mathlib.Core.Path.{_≡_, refl, sym, _∙_, ap}
+use mathlib.Core.Path.{_≡_, refl}
 use mathlib.Core.List.{List}
 use lib.IntN.{ℤ, pos}
 use lib.ListN.{length, replicate}
 use Rattle.bits.specs.Reader.{Answer, got, give, after}
 use Rattle.bits.specs.InnerAnswers.{endedAnswer}
-use Rattle.bits.specs.declared.Field.{Field}
 use Rattle.bits.specs.declared.Ended.{Ended}
 use Rattle.bits.specs.declared.Ended.the-variants.{At, Refused}
 use Rattle.channel_lines.specs.Bands.{long34, short34, long67, short67}
 use Rattle.channel_lines.specs.InnerBands.{allEdges}
 use Rattle.channel_lines.specs.Spectrum.{groupLines, spectrum}
-use Rattle.channel_side.specs.InnerAnswers.{pulsesAnswer}
 use Rattle.channel.specs.InnerAnswers.{HoldsLines, HoldsStream}
 use Rattle.channel_side.specs.declared.window.Window.{Window}
 use Rattle.channel_side.specs.Window.{isShort, maxSfb, groups, window}
 use Rattle.channel_side.specs.Sections.{groupBooks, widthOf, sections}
 use Rattle.channel_side.specs.Factors.{firstFactors, scaleFactors}
-use Rattle.channel_side.specs.Pulses.{Pulses, pulses, applyPulses}
-use Rattle.channel.specs.Stream.{Head, headOf, unpulsed, codedOf, streamAfter, stream}
-
--- the pulses, by the variant that the answer is
-pub pulses-is : (ls am ps : List ℕ) {f v : Field} {x : Answer Pulses} → pulsesAnswer f ls am ps ≡ x → f ≡ v → x ≡ pulsesAnswer v ls am ps
-pulses-is ls am ps e q = sym e ∙ ap (λ (y : Field). pulsesAnswer y ls am ps) q
+use Rattle.channel_side.specs.declared.pulses.Pulses.{Pulses}
+use Rattle.channel_side.specs.Pulses.{pulses, applyPulses}
+use Rattle.channel.specs.Stream.{Head, headOf, unpulsed, codedOf, streamWith, streamAfter, stream}
 
 abbrev pub headWith : ℕ → Window → Head
 headWith gain w = record { gain = gain; window = w }
@@ -65,13 +60,19 @@ unfolding scaleFactors
 factors-is gain w n books factors s at end c f e = rw (← c, ← f) e
 
 -- the lines, after books and scale factors
-pub stream-is : (index : ℕ) (h : Head) (s : List ℕ) (at end : ℕ) {books factors : List ℕ} {a₁ a₂ : ℕ}
-    → sections (h .window) s at end ≡ got books a₁ → scaleFactors (h .gain) (h .window) books s a₁ end ≡ got factors a₂
+pub lines-on : (index : ℕ) (h : Head) (books s : List ℕ) (at end : ℕ) {factors : List ℕ} {a₂ : ℕ}
+    → scaleFactors (h .gain) (h .window) books s at end ≡ got factors a₂
     → (r : Ended) (lines : List ℤ) → HoldsLines r lines (codedOf index (h .window) books s a₂ end)
-    → HoldsStream r h books factors lines (streamAfter index h s at end)
+    → HoldsStream r h books factors lines (streamWith index h books s at end)
+unfolding streamWith
+lines-on index h books s at end e (At next) lines o = (o .0, o .1, rw (e, o .2))
+lines-on index h books s at end e (Refused n place) lines o = rw (e, o)
+
+-- the books, and what follows them
+pub books-on : (index : ℕ) (h : Head) (s : List ℕ) (at end : ℕ) {books : List ℕ} {m : ℕ} → sections (h .window) s at end ≡ got books m
+    → streamAfter index h s at end ≡ streamWith index h books s m end
 unfolding streamAfter
-stream-is index h s at end e₁ e₂ (At next) lines o = (o .0, o .1, rw (e₁, e₂, o .2))
-stream-is index h s at end e₁ e₂ (Refused n place) lines o = rw (e₁, e₂, o)
+books-on index h s at end e = rw e
 
 -- a head, and what follows it
 pub stream-on : (index : ℕ) (s : List ℕ) (at end : ℕ) {h : Head} {m : ℕ} → headOf index s at end ≡ got h m

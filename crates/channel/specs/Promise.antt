@@ -1,26 +1,23 @@
 -- What is promised of a call: its answer, and what the lent outputs hold afterwards.
 use Prim.Native.Nat.{ℕ}
 use mathlib.Core.List.{List, _++_}
-use mathlib.Core.Bool.{Bool, _&&_, _||_}
+use mathlib.Core.Bool.{_&&_}
 use lib.Dec.{eqb, leb}
 use lib.IntN.{ℤ}
 use lib.ListN.{length, drop, replicate}
 use Rattle.bits.specs.Reader.{Answer, got, refused, pick}
 use Rattle.bits.specs.Payload.{inBuffer, range, whole}
+use Rattle.bits.specs.Sampling.{knownIndex}
 use Rattle.channel_lines.specs.Grouping.{inEight}
 use Rattle.channel_side.specs.Window.{maxSfb, groups}
 use Rattle.channel.specs.Stream.{Head, Stream, stream}
 use Rattle.channel.specs.declared.Reading.{Reading}
 
--- the sampling indices that have bands
-abbrev pub known : ℕ → Bool
-known index = eqb index 3 || eqb index 4 || eqb index 6 || eqb index 7
-
 -- what is judged before any bit, of a buffer and lent outputs of so many places: 1 for the range, 2 for an output that is too short, 3 for
 -- the index; 0 where all is well
 unfoldable pub channelCallRefusal : ℕ → ℕ → ℕ → ℕ → ℕ → ℕ → ℕ → ℕ
 channelCallRefusal size start end index lines factors books =
-    pick (inBuffer start end size) (pick (leb 1024 lines && leb 120 factors && leb 120 books) (pick (known index) 0 3) 2) 1
+    pick (inBuffer start end size) (pick (leb 1024 lines && leb 120 factors && leb 120 books) (pick (knownIndex index) 0 3) 2) 1
 
 -- the stream in a range of a buffer, or what refuses it
 unfoldable pub channel : List ℕ → ℕ → ℕ → ℕ → ℕ → ℕ → ℕ → Answer Stream

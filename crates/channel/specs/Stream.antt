@@ -10,7 +10,8 @@ use Rattle.channel_side.specs.declared.window.Window.{Window}
 use Rattle.channel_side.specs.Window.{isShort, maxSfb, groups, window}
 use Rattle.channel_side.specs.Sections.{sections}
 use Rattle.channel_side.specs.Factors.{scaleFactors}
-use Rattle.channel_side.specs.Pulses.{Pulses, pulses, applyPulses}
+use Rattle.channel_side.specs.declared.pulses.Pulses.{Pulses}
+use Rattle.channel_side.specs.Pulses.{pulses, applyPulses}
 pub use Rattle.channel.specs.declared.stream.Head.{Head}
 
 -- the pulses, and the lines before and after them
@@ -33,11 +34,16 @@ headOf index = do
   w ← window index
   give (record { gain = gain; window = w })
 
--- no TNS and no gain control, or 20; then the spectrum
+-- no TNS and no gain control, or 20
+unfoldable pub noTools : Reader ℕ
+noTools = do
+  tns ← zeroBit 20
+  zeroBit 20
+
+-- the two flags; then the spectrum
 unfoldable pub unpulsed : ℕ → Window → List ℕ → Reader (List ℤ)
 unpulsed index w books = do
-  tns ← zeroBit 20
-  control ← zeroBit 20
+  flags ← noTools
   spectrum (bands index (isShort w)) (maxSfb w) books (groups w)
 
 -- pulses; flags and spectrum; then the pulses are applied
@@ -48,13 +54,16 @@ codedOf index w books = do
   lines ← applyPulses ps before
   give (record { pulses = ps; before = before; lines = lines })
 
--- the rest of a stream, after its head
-unfoldable pub streamAfter : ℕ → Head → Reader Stream
-streamAfter index head = do
-  books ← sections (head .window)
+-- the rest of a stream, after its head and its books
+unfoldable pub streamWith : ℕ → Head → List ℕ → Reader Stream
+streamWith index head books = do
   factors ← scaleFactors (head .gain) (head .window) books
   coded ← codedOf index (head .window) books
   give (record { head = head; books = books; factors = factors; coded = coded })
+
+-- the rest of a stream, after its head
+unfoldable pub streamAfter : ℕ → Head → Reader Stream
+streamAfter index head = sections (head .window) >>= streamWith index head
 
 -- a stream of a sampling index, 3, 4, 6 or 7
 unfoldable pub stream : ℕ → Reader Stream

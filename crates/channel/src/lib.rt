@@ -10,6 +10,7 @@ ghost use Rattle.channel.specs.Promise.{readingOf, linesAfter, factorsAf
 use crate::stream::Head;
 use bits::Ended;
 use bits::bytes;
+use bits::calls::is_known_index;
 
 mod stream;
 
@@ -52,13 +53,10 @@ fn channel_call_refusal(
     if books < 120 {
         return 2;
     }
-    match index {
-        3 => 0,
-        4 => 0,
-        6 => 0,
-        7 => 0,
-        _ => 3,
+    if !is_known_index(index as usize) {
+        return 3;
     }
+    0
 }
 
 // The answer to a refusal.
@@ -162,16 +160,13 @@ pub fn read_channel(
         (length (now (lines .entry))) (length (now (factors .entry))) (length (now (books .entry)))) ⌝ }
     ensures { λ r. ⌜ now (lines .exit)
         ≡ linesAfter (channel (now (buf .entry)) start end index
-        (length (now (lines .entry))) (length (now (factors .entry))) (length (now (books .entry))))
-        (now (lines .entry)) ⌝ }
+        (length (now (lines .entry))) (length (now (factors .entry))) (length (now (books .entry)))) (now (lines .entry)) ⌝ }
     ensures { λ r. ⌜ now (factors .exit)
         ≡ factorsAfter (channel (now (buf .entry)) start end index
-        (length (now (lines .entry))) (length (now (factors .entry))) (length (now (books .entry))))
-        (now (factors .entry)) ⌝ }
+        (length (now (lines .entry))) (length (now (factors .entry))) (length (now (books .entry)))) (now (factors .entry)) ⌝ }
     ensures { λ r. ⌜ now (books .exit)
         ≡ booksAfter (channel (now (buf .entry)) start end index
-        (length (now (lines .entry))) (length (now (factors .entry))) (length (now (books .entry))))
-        (now (books .entry)) ⌝ }
+        (length (now (lines .entry))) (length (now (factors .entry))) (length (now (books .entry)))) (now (books .entry)) ⌝ }
 {
     let first = start as usize;
     let last = end as usize;

@@ -3,7 +3,7 @@ ghost use mathlib.Core.Path.{_≡_};
 ghost use Prim.Native.Nat.{_*_, _≤_, _<_, _^_};
 ghost use lib.IntN.{pos};
 ghost use lib.ListN.{length, replicate};
-ghost use Rattle.bits.specs.InnerAnswers.{endedAnswer};
+ghost use Rattle.bits.specs.InnerAnswers.{fieldAnswer, endedAnswer};
 ghost use Rattle.bits.specs.Payload.{whole};
 ghost use Rattle.tables.specs.Tables.{Tables};
 ghost use Rattle.channel_lines.specs.Bands.{bands};
@@ -12,7 +12,7 @@ ghost use Rattle.channel_side.specs.InnerAnswers.{Bounded};
 ghost use Rattle.channel_side.specs.Window.{isShort};
 ghost use Rattle.channel_side.specs.Factors.{scaleFactors};
 ghost use Rattle.channel.specs.InnerAnswers.{noHead, HoldsLines, HoldsStream};
-ghost use Rattle.channel.specs.Stream.{headOf, unpulsed, codedOf, streamAfter, stream};
+ghost use Rattle.channel.specs.Stream.{headOf, noTools, unpulsed, codedOf, streamWith, streamAfter, stream};
 use bits::Ended;
 use bits::Field;
 use channel_lines::bands::part_of;
@@ -66,6 +66,18 @@ fn read_head(s: &[u8], at: usize, end: usize, index: u8) -> ReadHead
     ReadHead { ended, head }
 }
 
+// The flags of TNS and gain control, which have to be 0.
+fn read_flags(s: &[u8], at: usize, end: usize) -> Field
+    requires { ⌜ end ≤ 8 * length (now s) ⌝ }
+    ensures { λ r. ⌜ fieldAnswer r ≡ noTools (now (s .entry)) at end ⌝ }
+{
+    let tns_flag = bits::read_unset_bit(s, at, end, 20);
+    let Field::Got(_, after_tns) = tns_flag else {
+        return tns_flag;
+    };
+    bits::read_unset_bit(s, after_tns, end, 20)
+}
+
 // The flags of TNS and gain control and the spectrum, with the bands of the windows, into lines that are 0.
 fn read_unpulsed(
     s: &[u8],
@@ -80,23 +92,18 @@ fn read_unpulsed(
     lines: &mut [i16; 1024],
 ) -> Ended
     requires { ⌜ (end ≤ 8 * length (now s)) × Tables (now codes) (now lens) × (now edges ≡ bands index (isShort window))
-        × Bounded index window
-        × (now lines ≡ replicate 1024 (pos 0)) ⌝ }
+        × Bounded index window × (now lines ≡ replicate 1024 (pos 0)) ⌝ }
     ensures { λ r. ⌜ endedAnswer r (now (lines .exit)) ≡ unpulsed index window (now (books .entry)) (now (s .entry)) at end ⌝ }
 {
-    let tns_flag = bits::read_unset_bit(s, at, end, 20);
-    let Field::Got(_, after_tns) = tns_flag else {
-        return bits::passed_on(tns_flag);
-    };
-    let control_flag = bits::read_unset_bit(s, after_tns, end, 20);
-    let Field::Got(_, after_control) = control_flag else {
-        return bits::passed_on(control_flag);
+    let flags = read_flags(s, at, end);
+    let Field::Got(_, after_flags) = flags else {
+        return bits::passed_on(flags);
     };
     let short = window.sequence == 2;
     let max_sfb = window.max_sfb as usize;
     read_lines(
         s,
-        after_control,
+        after_flags,
         end,
         codes,
         lens,
@@ -123,26 +130,14 @@ fn read_pulsed(
     lines: &mut [i16; 1024],
 ) -> Ended
     requires { ⌜ (end ≤ 8 * length (now s)) × Tables (now codes) (now lens) × (now edges ≡ bands index (isShort window))
-        × Bounded index window
-        × (now lines ≡ replicate 1024 (pos 0)) ⌝ }
+        × Bounded index window × (now lines ≡ replicate 1024 (pos 0)) ⌝ }
     ensures { λ r. ⌜ HoldsLines r (now (lines .exit)) (codedOf index window (now (books .entry)) (now (s .entry)) at end) ⌝ }
 {
-    let mut targets = [0u32; 4];
-    let mut amplitudes = [0u8; 4];
-    let mut places = [0usize; 4];
-    let pulses_field = read_pulses(
-        s,
-        at,
-        end,
-        index,
-        window.sequence == 2,
-        edges,
-        &mut targets,
-        &mut amplitudes,
-        &mut places,
-    );
-    let Field::Got(count, after_pulses) = pulses_field else {
-        return bits::passed_on(pulses_field);
+    let sent = read_pulses(s, at, end, index, window.sequence == 2, edges);
+    let pulses_ended = sent.ended;
+    let pulses = sent.pulses;
+    let Ended::At(after_pulses) = pulses_ended else {
+        return pulses_ended;
     };
     let read = read_unpulsed(
         s,
@@ -159,14 +154,7 @@ fn read_pulsed(
     let Ended::At(after_lines) = read else {
         return read;
     };
-    apply_pulses(
-        after_lines,
-        count as usize,
-        &targets,
-        &amplitudes,
-        &places,
-        lines,
-    )
+    apply_pulses(after_lines, pulses, lines)
 }
 
 // Pulses, flags and spectrum, with the edges of all bands, into lines that are 0.
@@ -229,6 +217,44 @@ fn read_scale_factors(
     read_factors(s, at, end, codes, lens, n, head.gain as u32, books, factors)
 }
 
+// The rest of a stream after its books, with the edges of all bands, into arrays of zeros.
+fn read_with_books(
+    s: &[u8],
+    at: usize,
+    end: usize,
+    codes: &[u32],
+    lens: &[u8],
+    edges: &[usize],
+    index: u8,
+    head: Head,
+    books: &[u8; 120],
+    factors: &mut [u8; 120],
+    lines: &mut [i16; 1024],
+) -> Ended
+    requires { ⌜ (end ≤ 8 * length (now s)) × Tables (now codes) (now lens) × (now edges ≡ allEdges) × Bounded index (head .window)
+        × (now factors ≡ replicate 120 0) × (now lines ≡ replicate 1024 (pos 0)) ⌝ }
+    ensures { λ r. ⌜ HoldsStream r head (now (books .entry)) (now (factors .exit)) (now (lines .exit))
+        (streamWith index head (now (books .entry)) (now (s .entry)) at end) ⌝ }
+{
+    let scale = read_scale_factors(s, at, end, codes, lens, index, head, books, factors);
+    let Ended::At(after_factors) = scale else {
+        return scale;
+    };
+    let window = head.window;
+    read_coded(
+        s,
+        after_factors,
+        end,
+        codes,
+        lens,
+        edges,
+        index,
+        window,
+        books,
+        lines,
+    )
+}
+
 // The rest of a stream after its head, with the edges of all bands, into arrays of zeros.
 fn read_body(
     s: &[u8],
@@ -243,13 +269,8 @@ fn read_body(
     factors: &mut [u8; 120],
     lines: &mut [i16; 1024],
 ) -> Ended
-    requires { ⌜ (end ≤ 8 * length (now s))
-        × Tables (now codes) (now lens)
-        × (now edges ≡ allEdges)
-        × Bounded index (head .window)
-        × (now books ≡ replicate 120 0)
-        × (now factors ≡ replicate 120 0)
-        × (now lines ≡ replicate 1024 (pos 0)) ⌝ }
+    requires { ⌜ (end ≤ 8 * length (now s)) × Tables (now codes) (now lens) × (now edges ≡ allEdges) × Bounded index (head .window)
+        × (now books ≡ replicate 120 0) × (now factors ≡ replicate 120 0) × (now lines ≡ replicate 1024 (pos 0)) ⌝ }
     ensures { λ r. ⌜ HoldsStream r head (now (books .exit)) (now (factors .exit)) (now (lines .exit))
         (streamAfter index head (now (s .entry)) at end) ⌝ }
 {
@@ -260,30 +281,17 @@ fn read_body(
     let Ended::At(after_sections) = sections else {
         return sections;
     };
-    let scale = read_scale_factors(
+    read_with_books(
         s,
         after_sections,
         end,
         codes,
         lens,
+        edges,
         index,
         head,
         books,
         factors,
-    );
-    let Ended::At(after_factors) = scale else {
-        return scale;
-    };
-    read_coded(
-        s,
-        after_factors,
-        end,
-        codes,
-        lens,
-        edges,
-        index,
-        window,
-        books,
         lines,
     )
 }
@@ -300,12 +308,8 @@ pub fn read_stream(
     factors: &mut [u8; 120],
     lines: &mut [i16; 1024],
 ) -> ReadHead
-    requires { ⌜ (end ≤ 8 * length (now s))
-        × Tables (now codes) (now lens)
-        × (now edges ≡ allEdges)
-        × (now books ≡ replicate 120 0)
-        × (now factors ≡ replicate 120 0)
-        × (now lines ≡ replicate 1024 (pos 0)) ⌝ }
+    requires { ⌜ (end ≤ 8 * length (now s)) × Tables (now codes) (now lens) × (now edges ≡ allEdges)
+        × (now books ≡ replicate 120 0) × (now factors ≡ replicate 120 0) × (now lines ≡ replicate 1024 (pos 0)) ⌝ }
     ensures { λ r. ⌜ HoldsStream (r .ended) (r .head) (now (books .exit)) (now (factors .exit)) (now (lines .exit))
         (stream index (now (s .entry)) 0 end) ⌝ }
 {

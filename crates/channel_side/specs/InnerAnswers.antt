@@ -1,6 +1,6 @@
 -- For contracts of inner functions only: what answers with lent arrays mean, and what is known of them.
 use Prim.Native.Nat.{ℕ, _≤_, _<_}
-use lib.ListN.{getD, replicate}
+use lib.ListN.{getD}
 use mathlib.Core.Path.{_≡_}
 use mathlib.Core.List.{List}
 use Rattle.bits.specs.Reader.{Answer, got, refused, Reader}

@@ -11,7 +11,8 @@ use borrow.Author.Tests.{leb-true, ltb-true, ltb-false, eqb-true, ne-eqb}
 use Rattle.bits.proofs.Bools.{and-both, true-false}
 use Rattle.bits.specs.Reader.{pick}
 use Rattle.image.specs.declared.Header.{Header}
-use Rattle.image.specs.Image.{countOf, indexOf, offsetOf, rising, soundImage, knownIndex, refusedHeader, headerOf}
+use Rattle.image.specs.Image.{countOf, indexOf, offsetOf, rising, soundImage, refusedHeader, headerOf}
+use Rattle.bits.specs.Sampling.{knownIndex}
 
 pub record Sound (s : List ℕ) : Type 0 where
   pub small : length s ≤ 65535

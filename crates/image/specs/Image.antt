@@ -1,11 +1,12 @@
 -- The tag image: big-endian pairs of bytes, the payload count, the sampling index and the offsets; then the payloads.
 use Prim.Native.Nat.{ℕ, zero, suc, _+_, _*_, _%_}
 use mathlib.Core.List.{List}
-use mathlib.Core.Bool.{Bool, true, _&&_, _||_}
+use mathlib.Core.Bool.{Bool, true, _&&_}
 use lib.Dec.{leb, ltb, eqb}
 use lib.ListN.{length, getD}
 use Rattle.bits.specs.Reader.{pick}
 use Rattle.bits.specs.Payload.{range}
+use Rattle.bits.specs.Sampling.{knownIndex}
 use Rattle.image.specs.declared.Header.{Header}
 use Rattle.image.specs.declared.Part.{Part}
 
@@ -34,10 +35,6 @@ unfoldable pub soundImage : List ℕ → Bool
 soundImage s =
     leb (length s) 65535 && leb 6 (length s) && eqb (countOf s % 2) 0 && leb (countOf s) 1024 && leb (2 * countOf s + 6) (length s)
     && eqb (offsetOf s 0) (2 * countOf s + 6) && rising s 0 (countOf s) && eqb (offsetOf s (countOf s)) (length s)
-
--- the sampling indices that are known
-abbrev pub knownIndex : ℕ → Bool
-knownIndex i = eqb i 3 || eqb i 4 || eqb i 6 || eqb i 7
 
 abbrev pub refusedHeader : ℕ → Header
 refusedHeader n = record { number = n; count = 0; index = 0 }

@@ -2,7 +2,7 @@
 ghost use mathlib.Core.Path.{_≡_};
 ghost use Prim.Native.Nat.{_+_, _*_, _<_, _≤_};
 ghost use lib.ListN.{length};
-ghost use Rattle.image.specs.Image.{pairAt, rising, soundImage, knownIndex, headerOf, partOf};
+ghost use Rattle.image.specs.Image.{pairAt, rising, soundImage, headerOf, partOf};
 
 // What an image's header says: a refusal's number, or 0 with the payload count and the sampling index.
 pub struct Header {
@@ -77,22 +77,6 @@ fn is_sound(image: &[u8]) -> bool
     pair_at(image, 2 * count + 4) == size
 }
 
-// Whether a sampling index is one that streams have.
-fn is_known(index: usize) -> bool
-    ensures { λ r. ⌜ r ≡ knownIndex index ⌝ }
-{
-    if index == 3 {
-        return true;
-    }
-    if index == 4 {
-        return true;
-    }
-    if index == 6 {
-        return true;
-    }
-    index == 7
-}
-
 // The header of an image: 5, then 3.
 pub fn read_header(image: &[u8]) -> Header
     ensures { λ r. ⌜ r ≡ headerOf (now (image .entry)) ⌝ }
@@ -105,7 +89,7 @@ pub fn read_header(image: &[u8]) -> Header
         };
     }
     let index = pair_at(image, 2);
-    if !is_known(index) {
+    if !bits::calls::is_known_index(index) {
         return Header {
             number: 3,
             count: 0,

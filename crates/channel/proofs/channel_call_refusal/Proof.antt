@@ -1,8 +1,11 @@
 -- The tests come in the order of the numbers: the first that fails gives its own.
 use mathlib.Core.Path.{_≡_, sym, _∙_}
-use borrow.Author.Tests.{le-leb, lt-leb, ne-eqb}
+use mathlib.Core.Bool.{Bool}
+use borrow.Author.Tests.{le-leb, lt-leb, not-true, not-false}
+use borrow.Author.Needs.{needs}
+use Rattle.bits.specs.Sampling.{knownIndex}
 use Rattle.bits.specs.Reader.{pick}
-use Rattle.channel.specs.Promise.{known, channelCallRefusal}
+use Rattle.channel.specs.Promise.{channelCallRefusal}
 use Rattle.channel.proofs.channel_call_refusal.Statement.{statement}
 use Rattle.channel.proofs.channel_call_refusal.Tie as tie
 
@@ -10,18 +13,19 @@ abbrev entry : tie.Else5 → tie.Start
 entry c = c .before .before .before .before .before
 
 -- past all other tests the index decides
-by-index : (c : tie.Else5)
-    → channelCallRefusal (entry c .args .size) (entry c .args .start) (entry c .args .end) (entry c .args .index) (entry c .args .lines)
+by-index : (c : tie.Else5) {known : Bool} → knownIndex (entry c .args .index) ≡ known
+    → pick known 0 3
+    ≡ channelCallRefusal (entry c .args .size) (entry c .args .start) (entry c .args .end) (entry c .args .index) (entry c .args .lines)
     (entry c .args .factors) (entry c .args .books)
-    ≡ pick (known (entry c .args .index)) 0 3
 unfolding channelCallRefusal
-by-index c =
+by-index c e =
     rw (
       le-leb _ _ (c .before .before .before .before .if1 .left),
       le-leb _ _ (c .before .before .before .if2 .left),
       le-leb _ _ (c .before .before .if3 .left),
       le-leb _ _ (c .before .if4 .left),
       le-leb _ _ (c .if5 .left),
+      e,
     )
 
 returns : tie.Need-returns
@@ -58,24 +62,16 @@ returns-5 c =
     )
 
 returns-6 : tie.Need-returns-6
-returns-6 c = sym (by-index (c .before) ∙ rw (c .match .keys1))
+returns-6 c =
+    let known = c .before .is-known-index in
+    by-index (c .before .before) (sym (known .ensures) ∙ not-true (known .result) (c .if6 .taken))
 
 returns-7 : tie.Need-returns-7
-returns-7 c = sym (by-index (c .before) ∙ rw (c .match .keys2))
-
-returns-8 : tie.Need-returns-8
-returns-8 c = sym (by-index (c .before) ∙ rw (c .match .keys3))
-
-returns-9 : tie.Need-returns-9
-returns-9 c = sym (by-index (c .before) ∙ rw (c .match .keys4))
-
-returns-10 : tie.Need-returns-10
-returns-10 c =
-    let none = c .match .rest in
-    sym (by-index (c .before)
-    ∙ rw (ne-eqb _ 3 (none .0 .0 .0 .1), ne-eqb _ 4 (none .0 .0 .1), ne-eqb _ 6 (none .0 .1), ne-eqb _ 7 (none .1)))
+returns-7 c =
+    let known = c .before .is-known-index in
+    by-index (c .before .before) (sym (known .ensures) ∙ not-false (known .result) (c .if6 .left))
 
 pub channel-call-refusal-spec : {M : Type 1} → statement M
 channel-call-refusal-spec =
     tie.close
-    (tie.spec returns returns-2 returns-3 returns-4 returns-5 returns-6 returns-7 returns-8 returns-9 returns-10)
+    (tie.spec returns returns-2 returns-3 returns-4 returns-5 (λ c κs. search needs) returns-6 returns-7)

@@ -3,7 +3,8 @@ use mathlib.Core.Path.{_≡_, sym, _∙_}
 use mathlib.Core.Bool.{true, false}
 use native.Mathlib.Omega.{arith}
 use borrow.Author.Tests.{not-true, not-false}
-use Rattle.image.specs.Image.{soundImage, knownIndex, headerOf}
+use Rattle.image.specs.Image.{soundImage, headerOf}
+use Rattle.bits.specs.Sampling.{knownIndex}
 use Rattle.image.proofs.ImageLaws.{sound-facts, known-small}
 use borrow.Author.Needs.{needs}
 use Rattle.image.proofs.read_header.Statement.{statement}
@@ -28,8 +29,8 @@ returns-2 c =
     let i = c .before .before .before in
     let s = i .before .before .before .args .image .now in
     let e : soundImage s ≡ true = sym (i .before .is-sound .ensures) ∙ not-false (i .before .is-sound .result) (i .if1 .left) in
-    let k : knownIndex (c .before .before .pair-at .result) ≡ false = sym (c .before .is-known .ensures)
-    ∙ not-true (c .before .is-known .result) (c .if2 .taken) in
+    let k : knownIndex (c .before .before .pair-at .result) ≡ false = sym (c .before .is-known-index .ensures)
+    ∙ not-true (c .before .is-known-index .result) (c .if2 .taken) in
     rw (e, ← (c .before .before .pair-at .ensures .0), k)
 
 pair-at-requires-2 : tie.Need-pair-at-requires-2
@@ -42,7 +43,7 @@ pair-at-requires-2 c κs =
 cast-t6 : tie.Need-cast-t6
 cast-t6 c =
     let index = c .before .before .before .pair-at in
-    let known = c .before .before .is-known in
+    let known = c .before .before .is-known-index in
     let small = known-small (index .result) (sym (known .ensures) ∙ not-false (known .result) (c .before .if2 .left)) in
     record { fits = omega (arith, small) }
 
@@ -53,8 +54,8 @@ returns-3 c =
     let s = i .before .before .before .args .image .now in
     let index = c .before .before .before .pair-at in
     let e : soundImage s ≡ true = sym (i .before .is-sound .ensures) ∙ not-false (i .before .is-sound .result) (i .if1 .left) in
-    let k : knownIndex (index .result) ≡ true = sym (c .before .before .is-known .ensures)
-    ∙ not-false (c .before .before .is-known .result) (c .before .if2 .left) in
+    let k : knownIndex (index .result) ≡ true = sym (c .before .before .is-known-index .ensures)
+    ∙ not-false (c .before .before .is-known-index .result) (c .before .if2 .left) in
     rw (e, ← (index .ensures .0), k, c .pair-at2 .ensures .0)
 
 pub read-header-spec : {M : Type 1} → statement M

@@ -1,9 +1,9 @@
--- Sections, scale factors, then the lines: the first refusal stands.
+-- Sections, then what follows them: the first refusal stands.
 use native.Mathlib.Nat.{le-trans}
 use Rattle.bits.proofs.Taken.{ended-is}
 use Rattle.channel_lines.proofs.BandLaws.{bands-most}
 use Rattle.channel.specs.Stream.{streamAfter}
-use Rattle.channel.proofs.StreamLaws.{sections-is, stream-is}
+use Rattle.channel.proofs.StreamLaws.{sections-is, books-on}
 use borrow.Author.Needs.{needs}
 use Rattle.channel.proofs.stream.read_body.Statement.{statement}
 use Rattle.channel.proofs.stream.read_body.Tie as tie
@@ -24,40 +24,21 @@ returns c =
     let a = entry at-books in
     rw told (rw (sections-is (a .args .head .window) _ _ _ _ (a .pre .4) (ended-is _ (at-books .read-books .ensures) told)))
 
-read-scale-factors-requires : tie.Need-read-scale-factors-requires
-read-scale-factors-requires c κs =
-    let a = entry (c .before .before .before .before .before) in
-    (a .pre .0, a .pre .1, a .pre .3, a .pre .5)
+read-with-books-requires : tie.Need-read-with-books-requires
+read-with-books-requires c κs =
+    let start = entry (c .before .before .before .before .before .before) in
+    (start .pre .0, start .pre .1, start .pre .2, start .pre .3, start .pre .5, start .pre .6)
 
 returns-2 : tie.Need-returns-2
-unfolding streamAfter
 returns-2 c =
-    let told = c .enum-told2 .given .1 in
-    let at-factors = c .before .before in
-    let books = at-factors .before .before .before .before in
+    let books = c .before .before .before .before .before in
     let a = entry (books .before .before) in
     let e = ended-is _ (books .before .before .read-books .ensures) (books .sections .given .1) in
-    rw told (rw (sections-is (a .args .head .window) _ _ _ _ (a .pre .4) e, ended-is _ (at-factors .read-scale-factors .ensures) told))
-
-read-coded-requires : tie.Need-read-coded-requires
-read-coded-requires c κs =
-    let factors = c .before .before .before in
-    let books = factors .before .before .before .before .before .before in
-    let a = entry (books .before .before) in
-    (a .pre .0, a .pre .1, a .pre .2, a .pre .3, a .pre .6)
-
-returns-3 : tie.Need-returns-3
-returns-3 c =
-    let factors = c .before .before .before .before in
-    let books = factors .before .before .before .before .before .before in
-    let a = entry (books .before .before) in
-    let e = ended-is _ (books .before .before .read-books .ensures) (books .sections .given .1) in
-    let o = ended-is _ (factors .before .before .read-scale-factors .ensures) (factors .scale .given .1) in
     let sent = sections-is (a .args .head .window) _ _ _ _ (a .pre .4) e in
-    stream-is (a .args .index) (a .args .head) _ _ _ sent o (c .read-coded .result) _ (c .read-coded .ensures)
+    rw (books-on (a .args .index) (a .args .head) _ _ _ sent) (c .read-with-books .ensures)
 
 pub read-body-spec : {M : Type 1} → statement M
 read-body-spec =
     tie.close
     (tie.spec (λ c. search needs) read-books-requires (λ c. search needs) (λ c. search needs) returns
-    read-scale-factors-requires (λ c. search needs) (λ c. search needs) returns-2 read-coded-requires returns-3)
+    read-with-books-requires returns-2)

@@ -41,8 +41,8 @@ unfolding pulseData
 returns c =
     let told = c .before .before .enum-told .given .1 in
     let none = c .no-pulses .ensures in
-    let at-count = c .before .before .before .before in
-    (passed _ (none .0 ∙ c .before .passed-on .ensures) told ∙ rw (answered (at-count .read-field .ensures) told), none-applicable (none .1))
+    let count = answered (c .before .before .before .before .read-field .ensures) told in
+    (passed _ (none .0 ∙ c .before .passed-on .ensures) told ∙ rw count, none-applicable (none .1))
 
 returns-2 : tie.Need-returns-2
 unfolding pulseData
@@ -81,6 +81,7 @@ returns-3 c =
 pub read-data-spec : {M : Type 1} → statement M
 read-data-spec =
     tie.close
-    (tie.spec (λ c κs. search needs) (λ c. search needs) (λ c. search needs) (λ c κs. search needs) (λ c κs. search needs) returns
-    (λ c κs. search needs) (λ c. search needs) (λ c. search needs) (λ c κs. search needs) (λ c κs. search needs) returns-2
-    (λ c. search needs) (λ c. search needs) shared-slice-read-line cast-line-2 (λ c. search needs) add-read-each read-each-requires returns-3)
+    (tie.spec (λ c κs. search needs) (λ c. search needs) (λ c. search needs) (λ c κs. search needs)
+    (λ c κs. search needs) returns (λ c κs. search needs) (λ c. search needs) (λ c. search needs)
+    (λ c κs. search needs) (λ c κs. search needs) returns-2 (λ c. search needs) (λ c. search needs)
+    shared-slice-read-line cast-line-2 (λ c. search needs) add-read-each read-each-requires returns-3)

@@ -1,7 +1,7 @@
 -- The four tests are the definition's.
 use borrow.Author.Tests.{eq-eqb, ne-eqb}
-use Rattle.image.proofs.is_known.Statement.{statement}
-use Rattle.image.proofs.is_known.Tie as tie
+use Rattle.bits.proofs.calls.is_known_index.Statement.{statement}
+use Rattle.bits.proofs.calls.is_known_index.Tie as tie
 
 returns : tie.Need-returns
 returns c = rw (eq-eqb _ _ (c .if1 .taken))
@@ -15,5 +15,5 @@ returns-3 c = rw (ne-eqb _ _ (c .before .before .if1 .left), ne-eqb _ _ (c .befo
 returns-4 : tie.Need-returns-4
 returns-4 c = rw (ne-eqb _ _ (c .before .before .if1 .left), ne-eqb _ _ (c .before .if2 .left), ne-eqb _ _ (c .if3 .left))
 
-pub is-known-spec : {M : Type 1} → statement M
-is-known-spec = tie.close (tie.spec returns returns-2 returns-3 returns-4)
+pub is-known-index-spec : {M : Type 1} → statement M
+is-known-index-spec = tie.close (tie.spec returns returns-2 returns-3 returns-4)
