@@ -55,16 +55,22 @@ loop-holds c =
           (a .end);
     })
 
+abbrev start : tie.At-loop Inv-loop μ-loop → tie.Start Inv-loop μ-loop
+start c = c .before .before .before .before .before .before
+
+-- where an index was read
+abbrev turn : tie.After-read-index Inv-loop μ-loop → tie.At-loop Inv-loop μ-loop
+turn c = c .before .before .before .before
+
 -- the code adds to what the definition adds to
 from-is : (c : tie.After-chosen Inv-loop μ-loop)
-    → let a = c .before .before .before .before .before .before .before .before .before .args in
+    → let a = start (c .before .before .before) .args in
     let l = c .before .before .before .loop in
     toZ w8 (ofZ w8 (c .chosen .result)) ≡ reference (a .time) (a .t7) (take (l .i) (l .indices))
 unfolding reference
 from-is c =
     let at-loop = c .before .before .before in
-    let entry = at-loop .before .before .before .before .before .before in
-    let a = entry .args in
+    let a = start at-loop .args in
     let l = at-loop .loop in
     let e : SFits w8 (getD (a .t7) (l .i) (pos 0)) = record { sfits = c .before .chosen-arg .given } in
     let p : SFits w8 (pick (eqb (a .time) 1) (getD (a .t7) (l .i) (pos 0)) (toZ w8 (l .last))) =
@@ -77,40 +83,37 @@ from-is c =
 
 -- and reads what the definition reads
 step-is : (c : tie.After-read-index Inv-loop μ-loop)
-    → let a = c .before .before .before .before .before .before .before .before .before .before .args in
-    let l = c .before .before .before .before .loop in
+    → let a = start (turn c) .args in
+    let l = turn c .loop in
     index (a .kind) (a .mode) (a .time) (a .t7) (take (l .i) (l .indices)) (a .s .now) (l .place) (a .end)
     ≡ indexAnswer (c .read-index .result)
 unfolding index
 step-is c =
-    let at-loop = c .before .before .before .before in
-    let entry = at-loop .before .before .before .before .before .before in
-    let a = entry .args in
-    let l = at-loop .loop in
+    let a = start (turn c) .args in
+    let l = turn c .loop in
     ap (λ (z : ℤ). indexFrom (a .kind) (a .mode) (a .time) z (a .s .now) (l .place) (a .end)) (sym (from-is (c .before)))
     ∙ sym (c .read-index .ensures)
 
 -- an index that was read is in its range
 step-ranged : (c : tie.After-read-index Inv-loop μ-loop) (x : ℤ) (next : ℕ)
-    → let a = c .before .before .before .before .before .before .before .before .before .before .args in
-    let l = c .before .before .before .before .loop in
+    → let a = start (turn c) .args in
+    let l = turn c .loop in
     index (a .kind) (a .mode) (a .time) (a .t7) (take (l .i) (l .indices)) (a .s .now) (l .place) (a .end) ≡ got x next
     → inRange (a .kind) (a .mode) x ≡ true
 unfolding index
 step-ranged c x next q = index-ranged _ _ _ _ _ _ _ x next q
 
 read-index-requires : tie.Need-read-index-requires Inv-loop μ-loop
-read-index-requires c κs =
-    let entry = c .before .before .before .before .before .before .before .before .before in
-    entry .pre
+read-index-requires c κs = start (c .before .before .before) .pre
 
 returns : tie.Need-returns Inv-loop μ-loop
 returns c =
     let p = c .before .before .before in
-    let l = p .before .before .before .before .loop in
-    let a = p .before .before .before .before .before .before .before .before .before .before .args in
+    let at-loop = p .before .before .before .before in
+    let l = at-loop .loop in
+    let a = at-loop .before .before .before .before .before .before .args in
     let f = index (a .kind) (a .mode) (a .time) (a .t7) in
-    let n = p .before .before .before .before .before .before .bands .ensures .0 in
+    let n = at-loop .before .before .bands .ensures .0 in
     let q = step-is p ∙ ap indexAnswer (c .before .number .given .1) in
     let e = l .inv .so-far ∙ counted-stop (more f) (l .i) _ (take (l .i) (l .indices)) (a .s .now) (l .place) (a .end) _ _
     (p .before .before .before .loop-test .taken)
@@ -120,8 +123,8 @@ returns c =
 loop-again : tie.Need-loop-again Inv-loop μ-loop
 loop-again c =
     let p = c .before .before .before in
-    let l = p .before .before .before .before .loop in
-    let a = p .before .before .before .before .before .before .before .before .before .before .args in
+    let l = turn p .loop in
+    let a = start (turn p) .args in
     let f = index (a .kind) (a .mode) (a .time) (a .t7) in
     let x = c .before .x .given .0 .0 in
     let q = step-is p ∙ ap indexAnswer (c .before .x .given .1) in

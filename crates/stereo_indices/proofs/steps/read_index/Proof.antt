@@ -1,7 +1,6 @@
--- The word is the definition's, its entry is at most 60, so the sum goes through 16 bits unchanged and the test is the definition's; a
--- sum in the range
--- fits a byte.
-use Prim.Native.Nat.{_≤_}
+-- The word is the definition's, its entry is at most 60, so the sum goes through 16 bits unchanged and the test is the definition's;
+-- a sum in the range fits a byte.
+use Prim.Native.Nat.{ℕ, _≤_}
 use mir.Val.{toZ, ofZ}
 use Rattle.stereo_indices.specs.Kind.{inRange}
 use denote.Ref.{now}
@@ -20,10 +19,17 @@ use borrow.Author.Needs.{needs}
 use Rattle.stereo_indices.proofs.steps.read_index.Statement.{statement}
 use Rattle.stereo_indices.proofs.steps.read_index.Tie as tie
 
+abbrev start : tie.After-known-told → tie.Start
+start c = c .before .before .before .before .before .before .before .before
+
+-- the entry that was read
+abbrev entry : tie.After-known-told → ℕ
+entry c = c .before .entry .given .0 .0
+
 -- the table and the word
-word-is : (c : tie.After-known-told) → let a = c .before .before .before .before .before .before .before .before .args in
+word-is : (c : tie.After-known-told) → let a = start c .args in
     difference (a .kind) (a .mode) (a .time) (now (a .s)) (a .at) (a .end)
-    ≡ got (c .before .entry .given .0 .0) (c .before .entry .given .0 .1 .0)
+    ≡ got (entry c) (c .before .entry .given .0 .1 .0)
 word-is c =
     let t = c .before .before .before in
     let d = t .before in
@@ -31,7 +37,7 @@ word-is c =
     (answered (t .table-word .ensures) (c .before .entry .given .1))
 
 -- entries are few
-entry-small : (c : tie.After-known-told) → c .before .entry .given .0 .0 ≤ 60
+entry-small : (c : tie.After-known-told) → entry c ≤ 60
 entry-small c =
     let t = c .before .before .before in
     let d = t .before in
@@ -39,29 +45,26 @@ entry-small c =
     (answered (t .table-word .ensures) (c .before .entry .given .1))
 
 -- the index that the code adds, and the test that it makes
-added-is : (c : tie.After-added) → let a = c .before .before .before .before .before .before .before .before .before .args in
-    c .added .result ≡ added (a .kind) (a .mode) (a .from) (c .before .before .entry .given .0 .0)
-added-is c =
-    let a = c .before .before .before .before .before .before .before .before .before in
-    rw (toZ-ofZ w8 _ (a .fits .from)) at (c .added .ensures)
+added-is : (c : tie.After-added) → let a = start (c .before) .args in
+    c .added .result ≡ added (a .kind) (a .mode) (a .from) (entry (c .before))
+added-is c = rw (toZ-ofZ w8 _ (start (c .before) .fits .from)) at (c .added .ensures)
 
-added-small : (c : tie.After-added) → let a = c .before .before .before .before .before .before .before .before .before .args in
-    natAbs (added (a .kind) (a .mode) (a .from) (c .before .before .entry .given .0 .0)) ≤ 218
-added-small c =
-    let a = c .before .before .before .before .before .before .before .before .before in
-    added-abs _ _ _ _ (entry-small (c .before)) (byte-abs _ (a .fits .from))
+added-small : (c : tie.After-added) → let a = start (c .before) .args in
+    natAbs (added (a .kind) (a .mode) (a .from) (entry (c .before))) ≤ 218
+added-small c = added-abs _ _ _ _ (entry-small (c .before)) (byte-abs _ (start (c .before) .fits .from))
 
-wide : (c : tie.After-added) → let a = c .before .before .before .before .before .before .before .before .before .args in
-    toZ w16 (ofZ w16 (c .added .result)) ≡ added (a .kind) (a .mode) (a .from) (c .before .before .entry .given .0 .0)
+wide : (c : tie.After-added) → let a = start (c .before) .args in
+    toZ w16 (ofZ w16 (c .added .result)) ≡ added (a .kind) (a .mode) (a .from) (entry (c .before))
 wide c = through w16 218 (added-is c) (added-small c) (omega arith)
 
-tested : (c : tie.After-within)
-    → let a = c .before .before .before .before .before .before .before .before .before .before .before .before .args in
+abbrev told : tie.After-within → tie.After-known-told
+told c = c .before .before .before .before
+
+tested : (c : tie.After-within) → let a = start (told c) .args in
     c .within .result ≡ inRange (a .kind) (a .mode)
-    (added (a .kind) (a .mode) (a .from) (c .before .before .before .before .before .entry .given .0 .0))
+    (added (a .kind) (a .mode) (a .from) (entry (told c)))
 tested c =
-    let entry = c .before .before .before .before .before .before .before .before .before .before .before .before in
-    let a = entry .args in
+    let a = start (told c) .args in
     let m = c .before in
     rw (
       through w16 15 (m .before .least .ensures) (least-abs (a .kind) (a .mode)) (omega arith),
