@@ -1,6 +1,5 @@
--- A channel stream in a range of a buffer. Its answer is 17 bytes: the bits used as a word; gain, window sequence, window shape,
--- max_sfb and
--- the number of groups; the windows of each of eight groups.
+-- A channel stream in a range of a buffer. Its answer is 17 bytes: the bits used as a word; gain, window sequence,
+-- window shape, max_sfb and the number of groups; the windows of each of eight groups.
 use Prim.Native.Nat.{ℕ}
 use mathlib.Core.List.{List, [], _∷_, _++_}
 use lib.Dec.{eqb}

@@ -1,6 +1,6 @@
--- An answered stereo payload as 582 bytes: the bits it used as a word; the header's fields; class, envelope count and borders; the
--- extension's
--- fields and fill bits; then of each of four envelopes a time flag and 34 indices for IID, ICC, IPD and OPD.
+-- An answered stereo payload as 582 bytes: the bits it used as a word; the header's fields; class, envelope count and
+-- borders; the extension's fields and fill bits; then of each of four envelopes a time flag and 34 indices for IID, ICC,
+-- IPD and OPD.
 use Prim.Native.Nat.{ℕ, zero, suc, _+_}
 use mathlib.Core.List.{List, [], _∷_, _++_}
 use lib.ListN.{getD}

@@ -28,8 +28,8 @@ stereoNumber s buf start end room =
     pick (eqb (stereoCallRefusal s (length buf) start end room) 0) (stereoReading s buf start end .number)
     (stereoCallRefusal s (length buf) start end room)
 
--- the state afterwards: the next one where the payload is accepted; the mark out of step and no other byte touched where the payload is
--- refused; untouched where the call is
+-- the state afterwards: the next one where the payload is accepted; the mark out of step and no other byte touched where
+-- the payload is refused; untouched where the call is
 unfoldable pub stereoStateAfter : List ℕ → List ℕ → ℕ → ℕ → ℕ → List ℕ
 stereoStateAfter s buf start end room =
     pick (eqb (stereoCallRefusal s (length buf) start end room) 0)

@@ -29,8 +29,8 @@ unfoldable pub rising : List ℕ → ℕ → ℕ → Bool
 rising s k zero = true
 rising s k (suc m) = leb (offsetOf s k) (offsetOf s (k + 1)) && rising s (k + 1) m
 
--- at most 65,535 bytes; the count even and at most 1,024; the pairs all there; the first offset 6 + 2n; offsets never fall; the last
--- equals the bytes read
+-- at most 65,535 bytes; the count even and at most 1,024; the pairs all there; the first offset 6 + 2n; offsets never
+-- fall; the last equals the bytes read
 unfoldable pub soundImage : List ℕ → Bool
 soundImage s =
     leb (length s) 65535 && leb 6 (length s) && eqb (countOf s % 2) 0 && leb (countOf s) 1024 && leb (2 * countOf s + 6) (length s)

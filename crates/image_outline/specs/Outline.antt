@@ -1,6 +1,6 @@
--- The outline of an image: of each payload, in order, four numbers. An accepted channel stream has 0, its gain, how many of its lines
--- are not
--- 0, and its bits; an accepted stereo payload has 0, its envelopes, 0, and its bits; a refused payload its number and zeros.
+-- The outline of an image: of each payload, in order, four numbers. An accepted channel stream has 0, its gain, how many
+-- of its lines are not 0, and its bits; an accepted stereo payload has 0, its envelopes, 0, and its bits; a refused
+-- payload its number and zeros.
 use Prim.Native.Nat.{ℕ, zero, suc, _+_, _*_}
 use mathlib.Core.List.{List, [], _∷_, _++_}
 use lib.Dec.{eqb, leb}

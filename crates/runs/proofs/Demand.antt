@@ -1,6 +1,5 @@
--- After any damage to a run, from the first intact restart on outcomes and states equal those of the unspoilt run; and between a
--- stretch that was
--- wholly refused or reported missing and that restart nothing is answered.
+-- After any damage to a run, from the first intact restart on outcomes and states equal those of the unspoilt run; and
+-- between a stretch that was wholly refused or reported missing and that restart nothing is answered.
 -- Assumes nothing.
 use Prim.Native.Nat.{ℕ}
 use mathlib.Core.Path.{_≡_, refl, _∙_, ap}

@@ -7,9 +7,8 @@ use lib.Dec.{leb}
 use Rattle.bits.specs.Reader.{got}
 use Rattle.runs.specs.Machine.{Machine, Outcome, answered, refusal, reported, Turn}
 
--- what is asked of a machine: a restart is read the same from every state, and leaves the same state; a refusal loses step; and
--- soundness is
--- kept
+-- what is asked of a machine: a restart is read the same from every state, and leaves the same state; a refusal loses
+-- step; and soundness is kept
 pub record Steady {S C : Type 0} (M : Machine S C) : Type 0 where
   pub same-read : (st st′ : S) (s : List ℕ) (c : C) (n : ℕ) → M .read st s ≡ got c n → M .restart c ≡ true → M .read st′ s ≡ got c n
   pub same-carried : (st st′ : S) (c : C) → M .restart c ≡ true → M .carried st c ≡ M .carried st′ c

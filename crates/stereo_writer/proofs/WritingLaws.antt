@@ -1,6 +1,5 @@
--- The round trips: what is written is read to the same contents, count and state; what was read is written back to the bits that it
--- used. And 40
--- is given exactly where no payload has the contents.
+-- The round trips: what is written is read to the same contents, count and state; what was read is written back to the
+-- bits that it used. And 40 is given exactly where no payload has the contents.
 -- Assumes nothing.
 use Prim.Native.Nat.{ℕ, _*_, _<_, _≤_}
 use mathlib.Core.Path.{_≡_, refl, ap}
