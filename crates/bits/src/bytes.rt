@@ -25,13 +25,6 @@ pub fn wide(b: u8) -> u32
     b as u32
 }
 
-// A byte as a count.
-pub fn count_of(b: u8) -> usize
-    ensures { λ r. ⌜ r ≡ b ⌝ }
-{
-    b as usize
-}
-
 // A flag as a byte.
 pub fn flag_byte(on: bool) -> u8
     ensures { λ r. ⌜ r ≡ flagByte on ⌝ }

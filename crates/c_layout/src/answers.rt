@@ -2,7 +2,7 @@
 ghost use mathlib.Core.Path.{_≡_};
 ghost use mathlib.Core.List.{[], _∷_};
 ghost use Prim.Native.Nat.{_+_, _≤_};
-ghost use lib.ListN.{length};
+ghost use lib.ListN.{length, getD};
 ghost use Rattle.bits.specs.Bytes.{byteOf, over};
 ghost use Rattle.c_layout.specs.ContentsBytes.{headerBytes, frameBytes, answerHead, envelopeBytes, envelopesBytes, answerBytes};
 ghost use Rattle.c_layout.specs.ContentsBytes.{rowAt, rowsAt, phasesAt, allPhasesAt, headerAt, frameAt, extensionAt, contentsAt};
@@ -63,18 +63,35 @@ fn all_phases_at(s: &[u8], at: usize) -> [Phases; 4]
     [first, second, third, fourth]
 }
 
+// Six bytes as numbers.
+fn six_of(a: u8, b: u8, c: u8, d: u8, e: u8, f: u8) -> [u32; 6]
+    ensures { λ r. ⌜ r ≡ a ∷ b ∷ c ∷ d ∷ e ∷ f ∷ [] ⌝ }
+{
+    [a as u32, b as u32, c as u32, d as u32, e as u32, f as u32]
+}
+
+// The six bytes from a place on, as numbers.
+fn six_at(s: &[u8], at: usize) -> [u32; 6]
+    requires { ⌜ at + 6 ≤ length (now s) ⌝ }
+    ensures { λ r. ⌜ r ≡ getD (now (s .entry)) at 0 ∷ getD (now (s .entry)) (at + 1) 0 ∷ getD (now (s .entry)) (at + 2) 0
+        ∷ getD (now (s .entry)) (at + 3) 0 ∷ getD (now (s .entry)) (at + 4) 0 ∷ getD (now (s .entry)) (at + 5) 0 ∷ [] ⌝ }
+{
+    six_of(s[at], s[at + 1], s[at + 2], s[at + 3], s[at + 4], s[at + 5])
+}
+
 // The header's fields.
 fn header_at(s: &[u8]) -> Header
     requires { ⌜ 10 ≤ length (now s) ⌝ }
     ensures { λ r. ⌜ r ≡ headerAt (now (s .entry)) ⌝ }
 {
+    let six = six_at(s, 4);
     Header {
-        there: bytes::wide(s[4]),
-        iid: bytes::wide(s[5]),
-        iidmode: bytes::wide(s[6]),
-        icc: bytes::wide(s[7]),
-        iccmode: bytes::wide(s[8]),
-        ext: bytes::wide(s[9]),
+        there: six[0],
+        iid: six[1],
+        iidmode: six[2],
+        icc: six[3],
+        iccmode: six[4],
+        ext: six[5],
     }
 }
 
@@ -83,15 +100,11 @@ fn frame_at(s: &[u8]) -> Frame
     requires { ⌜ 16 ≤ length (now s) ⌝ }
     ensures { λ r. ⌜ r ≡ frameAt (now (s .entry)) ⌝ }
 {
-    let borders = [
-        bytes::wide(s[12]),
-        bytes::wide(s[13]),
-        bytes::wide(s[14]),
-        bytes::wide(s[15]),
-    ];
+    let six = six_at(s, 10);
+    let borders = [six[2], six[3], six[4], six[5]];
     Frame {
-        class: bytes::wide(s[10]),
-        envelopes: bytes::count_of(s[11]),
+        class: six[0],
+        envelopes: six[1] as usize,
         borders,
     }
 }
@@ -101,20 +114,21 @@ fn extension_at(s: &[u8]) -> Extension
     requires { ⌜ 582 ≤ length (now s) ⌝ }
     ensures { λ r. ⌜ r ≡ extensionAt (now (s .entry)) ⌝ }
 {
+    let six = six_at(s, 16);
     let phases = all_phases_at(s, 92);
     let body = Body {
-        phase: bytes::wide(s[19]),
+        phase: six[3],
         phases,
     };
     let part = Part {
         body,
-        count: bytes::count_of(s[20]),
-        value: bytes::wide(s[21]),
+        count: six[4] as usize,
+        value: six[5],
     };
     Extension {
-        there: bytes::wide(s[16]),
-        size: bytes::wide(s[17]),
-        esc: bytes::wide(s[18]),
+        there: six[0],
+        size: six[1],
+        esc: six[2],
         part,
     }
 }

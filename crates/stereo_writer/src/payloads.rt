@@ -32,22 +32,12 @@ fn put_levels(
     let frame = contents.frame;
     let after_frame = fields::put_frame(out, after_header, frame);
     let n = frame.envelopes;
+    let kind = Kind::Iid;
     let on = setup.iid;
     let mode = setup.iidmode;
     let rows = contents.iid;
     let rec = state.iid;
-    put_rows(
-        out,
-        after_frame,
-        Kind::Iid,
-        on,
-        mode,
-        rec,
-        n,
-        rows,
-        codes,
-        lens,
-    )
+    put_rows(out, after_frame, kind, on, mode, rec, n, rows, codes, lens)
 }
 
 // The contents of a payload, from the first bit on.
@@ -67,32 +57,15 @@ pub fn put_contents(
     let after_levels = put_levels(out, state, setup, contents, codes, lens);
     let frame = contents.frame;
     let n = frame.envelopes;
+    let kind = Kind::Icc;
+    let on = setup.icc;
+    let mode = setup.iccmode;
     let rows = contents.icc;
     let rec = state.icc;
-    let kind = Kind::Icc;
-    let after_coherences = put_rows(
-        out,
-        after_levels,
-        kind,
-        setup.icc,
-        setup.iccmode,
-        rec,
-        n,
-        rows,
-        codes,
-        lens,
-    );
+    let after_icc = put_rows(out, after_levels, kind, on, mode, rec, n, rows, codes, lens);
+    let ext = setup.ext;
+    let iidmode = setup.iidmode;
     let records = payloads::phase_records(state);
     let x = contents.extension;
-    put_extension(
-        out,
-        after_coherences,
-        setup.ext,
-        setup.iidmode,
-        records,
-        n,
-        x,
-        codes,
-        lens,
-    )
+    put_extension(out, after_icc, ext, iidmode, records, n, x, codes, lens)
 }

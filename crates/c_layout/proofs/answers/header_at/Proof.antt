@@ -1,4 +1,4 @@
--- Each field is the byte at its place.
+-- The fields are the six bytes from place 4 on.
 use borrow.Author.Needs.{needs}
 use Rattle.c_layout.specs.ContentsBytes.{headerAt}
 use Rattle.c_layout.proofs.answers.header_at.Statement.{statement}
@@ -6,23 +6,10 @@ use Rattle.c_layout.proofs.answers.header_at.Tie as tie
 
 returns : tie.Need-returns
 unfolding headerAt
-returns c =
-    let at-wide4 = c .before .before .before .before in
-    let at-wide3 = at-wide4 .before .before in
-    let at-wide2 = at-wide3 .before .before in
-    let at-wide = at-wide2 .before .before in
-    rw (
-      at-wide .wide .ensures,
-      at-wide2 .wide2 .ensures,
-      at-wide3 .wide3 .ensures,
-      at-wide4 .wide4 .ensures,
-      c .before .before .wide5 .ensures,
-      c .wide6 .ensures,
-    )
+returns c = rw (c .six-at .ensures)
 
 pub header-at-spec : {M : Type 1} → statement M
 header-at-spec =
     tie.close
-    (tie.spec (λ c. search needs) (λ c κs. search needs) (λ c. search needs) (λ c κs. search needs)
-    (λ c. search needs) (λ c κs. search needs) (λ c. search needs) (λ c κs. search needs) (λ c. search needs)
-    (λ c κs. search needs) (λ c. search needs) (λ c κs. search needs) returns)
+    (tie.spec (λ c κs. search needs) (λ c. search needs) (λ c. search needs) (λ c. search needs) (λ c. search needs)
+    (λ c. search needs) (λ c. search needs) returns)
