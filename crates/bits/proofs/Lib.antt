@@ -22,3 +22,4 @@ pub mod NearLaws
 pub mod Signed
 pub mod Numbered
 pub mod Gives
+pub mod SamplingLaws

@@ -11,26 +11,16 @@ use lib.IntN.{ℤ}
 use lib.ListN.{length}
 use Rattle.bits.specs.Reader.{Answer, refused, pick}
 use Rattle.bits.specs.Payload.{inBuffer}
+use Rattle.bits.proofs.SamplingLaws.{large-unknown}
 use Rattle.channel.specs.Stream.{Stream}
-use Rattle.channel.specs.Promise.{known, channel, readingOf, linesAfter, factorsAfter, booksAfter}
+use Rattle.channel.specs.Promise.{channel, readingOf, linesAfter, factorsAfter, booksAfter}
 use Rattle.channel.specs.Promise as promise
 use Rattle.channel.specs.declared.Reading.{Reading}
 use Rattle.bits.specs.Bytes.{over}
 use Rattle.bits.specs.Calls.{callRefusal}
 use Rattle.c_channel.specs.ReadChannel.{channelBytes, channelCall, channelAnswerAfter}
 
--- an index that is too large is unknown, as 0 is
-large-unknown : (index : ℕ) → ltb index 256 ≡ false → known index ≡ false
-large-unknown index e =
-    let h = ltb-false index 256 e in
-    rw (
-      ne-eqb index 3 (λ z. absurd (omega arith)),
-      ne-eqb index 4 (λ z. absurd (omega arith)),
-      ne-eqb index 6 (λ z. absurd (omega arith)),
-      ne-eqb index 7 (λ z. absurd (omega arith)),
-    )
-
--- so it is refused whatever else is judged
+-- an index that is too large is unknown, as 0 is: so it is refused whatever else is judged
 never : (b l : Bool) → eqb (pick b (pick l 3 2) 1) 0 ≡ false
 never true true = refl
 never true false = refl
@@ -43,7 +33,8 @@ module _ (buf : List ℕ) (start end index lines factors books : ℕ) where
   narrowed-by true e = refl
   narrowed-by false e =
       let no = never (inBuffer start end (length buf)) (leb 1024 lines && leb 120 factors && leb 120 books) in
-      rw (large-unknown index e, no)
+      let h = ltb-false index 256 e in
+      rw (large-unknown index (omega arith), no)
 
   -- an index that was narrowed for the reader
   pub narrowed : channel buf start end (pick (ltb index 256) index 0) lines factors books ≡ channel buf start end index lines factors books

@@ -5,10 +5,10 @@ use mathlib.Core.Path.{_≡_, refl, sym, _∙_, ap, subst}
 use mathlib.Core.Bool.{Bool, true, false, _&&_}
 use mathlib.Core.List.{List}
 use native.Mathlib.Omega.{arith}
-use lib.Dec.{leb, ltb, eqb}
+use lib.Dec.{leb, eqb}
 use lib.ListN.{length}
-use borrow.Author.Tests.{leb-true, ltb-true, ltb-false, eqb-true, ne-eqb}
-use Rattle.bits.proofs.Bools.{and-both, true-false}
+use borrow.Author.Tests.{leb-true, eqb-true}
+use Rattle.bits.proofs.Bools.{and-both}
 use Rattle.bits.specs.Reader.{pick}
 use Rattle.image.specs.declared.Header.{Header}
 use Rattle.image.specs.Image.{countOf, indexOf, offsetOf, rising, soundImage, refusedHeader, headerOf}
@@ -98,22 +98,6 @@ header-sound s e = go (soundImage s) refl (knownIndex (indexOf s)) e
     go true q true e = (sound-facts s q, refl)
     go true q false e = absurd (omega arith)
     go false q b e = absurd (omega arith)
-
--- a known index is small
-small-by : (i : ℕ) (b : Bool) → ltb i 8 ≡ b → knownIndex i ≡ true → i < 8
-small-by i true e k = ltb-true i 8 e
-small-by i false e k =
-    let h = ltb-false i 8 e in
-    absurd (true-false (knownIndex i) k
-    (rw (
-      ne-eqb i 3 (λ z. absurd (omega arith)),
-      ne-eqb i 4 (λ z. absurd (omega arith)),
-      ne-eqb i 6 (λ z. absurd (omega arith)),
-      ne-eqb i 7 (λ z. absurd (omega arith)),
-    )))
-
-pub known-small : (i : ℕ) → knownIndex i ≡ true → i < 8
-known-small i k = small-by i (ltb i 8) refl k
 
 -- what is known where a header was accepted, and k is below its count
 pub header-known : (s : List ℕ) (k : ℕ) {h : Header} → h ≡ headerOf s → h .number ≡ 0 → k < h .count → Sound s × (k < countOf s)

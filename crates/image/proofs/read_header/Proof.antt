@@ -5,7 +5,8 @@ use native.Mathlib.Omega.{arith}
 use borrow.Author.Tests.{not-true, not-false}
 use Rattle.image.specs.Image.{soundImage, headerOf}
 use Rattle.bits.specs.Sampling.{knownIndex}
-use Rattle.image.proofs.ImageLaws.{sound-facts, known-small}
+use Rattle.image.proofs.ImageLaws.{sound-facts}
+use Rattle.bits.proofs.SamplingLaws.{known-small}
 use borrow.Author.Needs.{needs}
 use Rattle.image.proofs.read_header.Statement.{statement}
 use Rattle.image.proofs.read_header.Tie as tie
