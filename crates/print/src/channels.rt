@@ -15,23 +15,23 @@ fn places(groups: u8, bands: u8) -> usize {
     n
 }
 
-// The numbers of a channel stream that was read; the answer is whether all were written.
-fn print_numbers(r: Reading, lines: &[i16], factors: &[u8], books: &[u8]) -> bool {
+// The window information, with the windows of each group.
+fn print_window(r: Reading) -> bool {
     let groups = r.groups;
-    let n = places(r.group_count, r.max_sfb);
-    if !rows::say_window(
-        r.sequence as u32,
-        r.shape as u32,
-        r.max_sfb as u32,
+    rows::say_numbers(
+        b"  window # shape # max_sfb # groups",
+        &[r.sequence as usize, r.shape as usize, r.max_sfb as usize],
         &groups,
         r.group_count as usize,
-    ) {
+    )
+}
+
+// The first n books and scale factors, and the lines; the answer is whether all were written.
+fn print_numbers(n: usize, lines: &[i16], factors: &[u8], books: &[u8]) -> bool {
+    if !rows::say_numbers(b"  books", &[], books, n) {
         return false;
     }
-    if !rows::say_numbers(b"  books", books, n) {
-        return false;
-    }
-    if !rows::say_numbers(b"  factors", factors, n) {
+    if !rows::say_numbers(b"  factors", &[], factors, n) {
         return false;
     }
     rows::say_values(lines)
@@ -49,5 +49,8 @@ pub fn print_channel(bytes: &[u8], index: u8) -> bool
     if r.number != 0 {
         return true;
     }
-    print_numbers(r, &lines, &factors, &books)
+    if !print_window(r) {
+        return false;
+    }
+    print_numbers(places(r.group_count, r.max_sfb), &lines, &factors, &books)
 }

@@ -1,5 +1,5 @@
 // A tag image on standard input, printed: the line of each payload, and in full what it holds and the stereo state after it.
-ghost use Prim.Native.Nat.{_≤_};
+ghost use Prim.Native.Nat.{_≤_, _<_};
 ghost use lib.ListN.{length};
 ghost use Rattle.io.specs.Counts.{Counts};
 use stereo::State;
@@ -8,6 +8,7 @@ use stereo::states;
 mod channels;
 mod contents;
 mod input;
+mod marks;
 mod records;
 
 // Whether a payload's rows were all written, and the stereo state after it.
@@ -33,6 +34,32 @@ fn print_details(image: &[u8], k: usize, index: u8, state: State) -> Printed
     contents::print_stereo(state, bytes)
 }
 
+// The k-th payload's line, from its four numbers in the outline.
+fn print_line(k: usize, rows: &[usize]) -> bool
+    requires { ⌜ (k < 1024) × (4096 ≤ length (now rows)) ⌝ }
+{
+    let at = 4 * k;
+    print_lines::say_payload(k, rows[at], rows[at + 1], rows[at + 2], rows[at + 3])
+}
+
+// The k-th payload: its line, and in full what it holds, from the state before it.
+fn print_payload(
+    image: &[u8],
+    k: usize,
+    index: u8,
+    rows: &[usize],
+    full: bool,
+    state: State,
+) -> Printed
+    requires { ⌜ (length (now image) ≤ 65535) × (k < 1024) × (4096 ≤ length (now rows)) ⌝ }
+{
+    let written = print_line(k, rows);
+    if written && full {
+        return print_details(image, k, index, state);
+    }
+    Printed { written, state }
+}
+
 // The payloads of an image that has this outline, in their order, up to the first line that is not written; whether all were.
 fn print_payloads(image: &[u8], count: usize, index: u8, rows: &[usize], full: bool) -> bool
     requires { ⌜ (length (now image) ≤ 65535) × (count ≤ 1024) × (4096 ≤ length (now rows)) ⌝ }
@@ -40,18 +67,12 @@ fn print_payloads(image: &[u8], count: usize, index: u8, rows: &[usize], full: b
     let mut state = states::fresh();
     let mut k = 0;
     while k < count {
-        let at = 4 * k;
-        if !print_lines::say_payload(k, rows[at], rows[at + 1], rows[at + 2], rows[at + 3]) {
+        let printed = print_payload(image, k, index, rows, full, state);
+        if !printed.written {
             return false;
         }
-        if full {
-            let printed = print_details(image, k, index, state);
-            if !printed.written {
-                return false;
-            }
-            let next = printed.state;
-            state = next;
-        }
+        let next = printed.state;
+        state = next;
         k += 1;
     }
     true

@@ -1,70 +1,53 @@
-// What the programs print of a tag image: the lines of the listing, and rows of numbers for the dump.
+// What the programs print of a tag image. A form is words with a mark `#` in place of each number.
 // Each `say` answers whether its line was written, and a caller prints nothing after one that was not.
 
 pub mod rows;
 mod text;
 
+// What may stand in place of a number: a dash where there is none, and the letters of the two directions of coding.
+pub const NONE: usize = 4294967296 + 45;
+
+pub const TIME: usize = 4294967296 + 116;
+
+pub const FREQUENCY: usize = 4294967296 + 102;
+
+// A form, with the numbers in place of its marks.
+pub fn say_form(form: &[u8], numbers: &[usize]) -> bool {
+    let mut line = [0u8; 128];
+    let at = text::put_form(&mut line, 0, form, numbers);
+    text::say(&mut line, at)
+}
+
 // The line of a bad image.
 pub fn say_refused_image(number: u8) -> bool {
-    let mut line = [0u8; 32];
-    let at = text::put(&mut line, 0, b"image refused");
-    let at = text::put_next(&mut line, at, number as u64);
-    text::say(&mut line, at)
+    say_form(b"image refused #", &[number as usize])
 }
 
 // The first line of a good one.
 pub fn say_count(count: usize) -> bool {
-    let mut line = [0u8; 32];
-    let at = text::put(&mut line, 0, b"payloads");
-    let at = text::put_next(&mut line, at, count as u64);
-    text::say(&mut line, at)
+    say_form(b"payloads #", &[count])
 }
 
-// The line of a channel stream: its gain, its non-zero lines, and the bits used.
-fn say_channel(k: usize, gain: usize, lines: usize, bits: usize) -> bool {
-    let mut line = [0u8; 96];
-    let at = text::put_number(&mut line, 0, k as u64);
-    let at = text::put(&mut line, at, b" channel gain");
-    let at = text::put_next(&mut line, at, gain as u64);
-    let at = text::put(&mut line, at, b" lines");
-    let at = text::put_next(&mut line, at, lines as u64);
-    let at = text::put(&mut line, at, b" bits");
-    let at = text::put_next(&mut line, at, bits as u64);
-    text::say(&mut line, at)
+// The line of a channel payload: its gain, its non-zero lines and the bits used, or why it was refused.
+fn say_channel(k: usize, number: usize, gain: usize, lines: usize, bits: usize) -> bool {
+    if number != 0 {
+        return say_form(b"# channel refused #", &[k, number]);
+    }
+    say_form(b"# channel gain # lines # bits #", &[k, gain, lines, bits])
 }
 
-// The line of a stereo payload: its envelopes, and the bits used.
-fn say_stereo(k: usize, envelopes: usize, bits: usize) -> bool {
-    let mut line = [0u8; 96];
-    let at = text::put_number(&mut line, 0, k as u64);
-    let at = text::put(&mut line, at, b" stereo envelopes");
-    let at = text::put_next(&mut line, at, envelopes as u64);
-    let at = text::put(&mut line, at, b" bits");
-    let at = text::put_next(&mut line, at, bits as u64);
-    text::say(&mut line, at)
-}
-
-// The line of a payload that was refused.
-fn say_refused(k: usize, what: &[u8], number: usize) -> bool {
-    let mut line = [0u8; 64];
-    let at = text::put_number(&mut line, 0, k as u64);
-    let at = text::put(&mut line, at, b" ");
-    let at = text::put(&mut line, at, what);
-    let at = text::put(&mut line, at, b" refused");
-    let at = text::put_next(&mut line, at, number as u64);
-    text::say(&mut line, at)
+// The line of a stereo payload: its envelopes and the bits used, or why it was refused.
+fn say_stereo(k: usize, number: usize, envelopes: usize, bits: usize) -> bool {
+    if number != 0 {
+        return say_form(b"# stereo refused #", &[k, number]);
+    }
+    say_form(b"# stereo envelopes # bits #", &[k, envelopes, bits])
 }
 
 // The line of a payload, from its four numbers: the refusal, or 0 and what it holds.
 pub fn say_payload(k: usize, number: usize, first: usize, second: usize, bits: usize) -> bool {
     if k % 2 == 0 {
-        if number != 0 {
-            return say_refused(k, b"channel", number);
-        }
-        return say_channel(k, first, second, bits);
+        return say_channel(k, number, first, second, bits);
     }
-    if number != 0 {
-        return say_refused(k, b"stereo", number);
-    }
-    say_stereo(k, first, bits)
+    say_stereo(k, number, first, bits)
 }
