@@ -15,30 +15,24 @@ fn places(groups: u8, bands: u8) -> usize {
     n
 }
 
-// The window information, with the windows of each group.
-fn print_window(r: Reading) -> bool {
+// The window information with the windows of each group, the books and scale factors, and the lines.
+fn print_reading(ok: bool, r: Reading, lines: &[i16], factors: &[u8], books: &[u8]) -> bool {
     let groups = r.groups;
-    rows::say_numbers(
+    let n = places(r.group_count, r.max_sfb);
+    let ok = rows::say_numbers(
+        ok,
         b"  window # shape # max_sfb # groups",
         &[r.sequence as usize, r.shape as usize, r.max_sfb as usize],
         &groups,
         r.group_count as usize,
-    )
+    );
+    let ok = rows::say_numbers(ok, b"  books", &[], books, n);
+    let ok = rows::say_numbers(ok, b"  factors", &[], factors, n);
+    rows::say_values(ok, lines)
 }
 
-// The first n books and scale factors, and the lines; the answer is whether all were written.
-fn print_numbers(n: usize, lines: &[i16], factors: &[u8], books: &[u8]) -> bool {
-    if !rows::say_numbers(b"  books", &[], books, n) {
-        return false;
-    }
-    if !rows::say_numbers(b"  factors", &[], factors, n) {
-        return false;
-    }
-    rows::say_values(lines)
-}
-
-// The numbers of a channel payload, where it is accepted; false where one was not written.
-pub fn print_channel(bytes: &[u8], index: u8) -> bool
+// What a channel payload holds, where it is accepted.
+pub fn print_channel(ok: bool, bytes: &[u8], index: u8) -> bool
     requires { ⌜ length (now bytes) ≤ 65535 ⌝ }
 {
     let mut lines = [0i16; 1024];
@@ -47,10 +41,7 @@ pub fn print_channel(bytes: &[u8], index: u8) -> bool
     let end = bytes.len() as u32;
     let r = channel::read_channel(bytes, 0, end, index, &mut lines, &mut factors, &mut books);
     if r.number != 0 {
-        return true;
+        return ok;
     }
-    if !print_window(r) {
-        return false;
-    }
-    print_numbers(places(r.group_count, r.max_sfb), &lines, &factors, &books)
+    print_reading(ok, r, &lines, &factors, &books)
 }

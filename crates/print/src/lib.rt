@@ -18,20 +18,18 @@ struct Printed {
 }
 
 // What the k-th payload holds, from the state before it; the state after it comes back.
-fn print_details(image: &[u8], k: usize, index: u8, state: State) -> Printed
+fn print_details(ok: bool, image: &[u8], k: usize, index: u8, state: State) -> Printed
     requires { ⌜ length (now image) ≤ 65535 ⌝ }
 {
     let part = image::part_of(image, k);
     let start = part.start;
     let end = part.end;
     let bytes = &image[start..end];
-    if k % 2 == 0 {
-        return Printed {
-            written: channels::print_channel(bytes, index),
-            state: state,
-        };
+    if k % 2 == 1 {
+        return contents::print_stereo(ok, state, bytes);
     }
-    contents::print_stereo(state, bytes)
+    let written = channels::print_channel(ok, bytes, index);
+    Printed { written, state }
 }
 
 // The k-th payload's line, from its four numbers in the outline.
@@ -54,8 +52,8 @@ fn print_payload(
     requires { ⌜ (length (now image) ≤ 65535) × (k < 1024) × (4096 ≤ length (now rows)) ⌝ }
 {
     let written = print_line(k, rows);
-    if written && full {
-        return print_details(image, k, index, state);
+    if full {
+        return print_details(written, image, k, index, state);
     }
     Printed { written, state }
 }

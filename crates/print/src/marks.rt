@@ -1,13 +1,5 @@
 // What stands at a mark of a form.
 
-// A flag.
-pub fn flag(on: bool) -> usize {
-    if on {
-        return 1;
-    }
-    0
-}
-
 // A mode, where there is one.
 pub fn mode(there: bool, mode: u32) -> usize {
     if there {

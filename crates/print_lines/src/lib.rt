@@ -1,5 +1,5 @@
 // What the programs print of a tag image. A form is words with a mark `#` in place of each number.
-// Each `say` answers whether its line was written, and a caller prints nothing after one that was not.
+// Each `say` answers whether its line was written. One that is told that a line before it was not (`ok` is false) writes nothing.
 
 pub mod rows;
 mod text;
@@ -12,36 +12,40 @@ pub const TIME: usize = 4294967296 + 116;
 pub const FREQUENCY: usize = 4294967296 + 102;
 
 // A form, with the numbers in place of its marks.
-pub fn say_form(form: &[u8], numbers: &[usize]) -> bool {
+pub fn say_form(ok: bool, form: &[u8], numbers: &[usize]) -> bool {
     let mut line = [0u8; 128];
     let at = text::put_form(&mut line, 0, form, numbers);
-    text::say(&mut line, at)
+    text::say(ok, &mut line, at)
 }
 
 // The line of a bad image.
 pub fn say_refused_image(number: u8) -> bool {
-    say_form(b"image refused #", &[number as usize])
+    say_form(true, b"image refused #", &[number as usize])
 }
 
 // The first line of a good one.
 pub fn say_count(count: usize) -> bool {
-    say_form(b"payloads #", &[count])
+    say_form(true, b"payloads #", &[count])
 }
 
 // The line of a channel payload: its gain, its non-zero lines and the bits used, or why it was refused.
 fn say_channel(k: usize, number: usize, gain: usize, lines: usize, bits: usize) -> bool {
     if number != 0 {
-        return say_form(b"# channel refused #", &[k, number]);
+        return say_form(true, b"# channel refused #", &[k, number]);
     }
-    say_form(b"# channel gain # lines # bits #", &[k, gain, lines, bits])
+    say_form(
+        true,
+        b"# channel gain # lines # bits #",
+        &[k, gain, lines, bits],
+    )
 }
 
 // The line of a stereo payload: its envelopes and the bits used, or why it was refused.
 fn say_stereo(k: usize, number: usize, envelopes: usize, bits: usize) -> bool {
     if number != 0 {
-        return say_form(b"# stereo refused #", &[k, number]);
+        return say_form(true, b"# stereo refused #", &[k, number]);
     }
-    say_form(b"# stereo envelopes # bits #", &[k, envelopes, bits])
+    say_form(true, b"# stereo envelopes # bits #", &[k, envelopes, bits])
 }
 
 // The line of a payload, from its four numbers: the refusal, or 0 and what it holds.

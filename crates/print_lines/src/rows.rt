@@ -19,11 +19,11 @@ fn put_numbers(line: &mut [u8], at: usize, numbers: &[u8], n: usize) -> usize {
 }
 
 // A form, and the first n numbers of a slice.
-pub fn say_numbers(form: &[u8], marked: &[usize], numbers: &[u8], n: usize) -> bool {
+pub fn say_numbers(ok: bool, form: &[u8], marked: &[usize], numbers: &[u8], n: usize) -> bool {
     let mut line = [0u8; 1024];
     let at = text::put_form(&mut line, 0, form, marked);
     let at = put_numbers(&mut line, at, numbers, n);
-    text::say(&mut line, at)
+    text::say(ok, &mut line, at)
 }
 
 // An index, after a space.
@@ -44,11 +44,11 @@ fn put_indices(line: &mut [u8], at: usize, indices: &[i8]) -> usize {
 }
 
 // A form, and the indices of a slice.
-pub fn say_indices(form: &[u8], marked: &[usize], indices: &[i8]) -> bool {
+pub fn say_indices(ok: bool, form: &[u8], marked: &[usize], indices: &[i8]) -> bool {
     let mut line = [0u8; 256];
     let at = text::put_form(&mut line, 0, form, marked);
     let at = put_indices(&mut line, at, indices);
-    text::say(&mut line, at)
+    text::say(ok, &mut line, at)
 }
 
 // The place and the value of a line that is not 0.
@@ -72,23 +72,26 @@ fn put_values(line: &mut [u8], at: usize, lines: &[i16]) -> usize {
 }
 
 // The place and the value of each line that is not 0.
-pub fn say_values(lines: &[i16]) -> bool {
+pub fn say_values(ok: bool, lines: &[i16]) -> bool {
     let mut line = [0u8; 12288];
     let at = text::put(&mut line, 0, b"  values");
     let at = put_values(&mut line, at, lines);
-    text::say(&mut line, at)
+    text::say(ok, &mut line, at)
 }
 
 // The bit of weight 2^k.
-fn bit_of(value: u32, k: u32) -> usize {
+fn bit_of(value: u32, k: usize) -> usize {
     if 31 < k {
         return 0;
     }
     ((value >> k) % 2) as usize
 }
 
-// The last count bits of a number.
-fn put_bits(line: &mut [u8], at: usize, value: u32, count: u32) -> usize {
+// The last count bits of a number, or a dash where there are none.
+fn put_bits(line: &mut [u8], at: usize, value: u32, count: usize) -> usize {
+    if count == 0 {
+        return text::put_byte(line, at, b'-');
+    }
     let mut to = at;
     let mut left = count;
     while 0 < left {
@@ -99,9 +102,9 @@ fn put_bits(line: &mut [u8], at: usize, value: u32, count: u32) -> usize {
 }
 
 // A form, and the last count bits of a number.
-pub fn say_bits(form: &[u8], marked: &[usize], value: u32, count: u32) -> bool {
-    let mut line = [0u8; 96];
+pub fn say_bits(ok: bool, form: &[u8], marked: &[usize], value: u32, count: usize) -> bool {
+    let mut line = [0u8; 128];
     let at = text::put_form(&mut line, 0, form, marked);
     let at = put_bits(&mut line, at, value, count);
-    text::say(&mut line, at)
+    text::say(ok, &mut line, at)
 }

@@ -82,7 +82,10 @@ pub fn put_signed(line: &mut [u8], at: usize, n: i16) -> usize {
 }
 
 // The line is ended and written out, whole or not at all; the answer is whether all of it was written.
-pub fn say(line: &mut [u8], at: usize) -> bool {
+pub fn say(ok: bool, line: &mut [u8], at: usize) -> bool {
+    if !ok {
+        return false;
+    }
     if line.len() <= at {
         return false;
     }

@@ -6,14 +6,13 @@ use Rattle.print.proofs.contents.print_envelopes.Statement.{statement}
 use Rattle.print.proofs.contents.print_envelopes.Tie as tie
 
 abbrev Inv-loop : tie.InvT-loop
-Inv-loop count setup body iid icc phases e₀ e = e ≤ 4
+Inv-loop before count setup contents ok₀ e₀ ok e = e ≤ 4
 
 abbrev μ-loop : tie.MeasureT-loop
-μ-loop count setup body iid icc phases e₀ e = 4 - e
+μ-loop before count setup contents ok₀ e₀ ok e = 4 - e
 
 pub print-envelopes-spec : {M : Type 1} → statement M
 print-envelopes-spec =
     tie.close
-    (tie.spec Inv-loop μ-loop (λ c. search needs) (λ c. search needs) (λ c. search needs) (λ c. search needs)
-    (λ c. search needs) (λ c. search needs) (λ c. search needs) (λ c κs. search needs) (λ c. search needs)
-    (λ c. search needs) (λ c. search needs) (λ c. search needs) (λ c. search needs) (λ c. search needs))
+    (tie.spec Inv-loop μ-loop (λ c. search needs) (λ c κs. search needs) (λ c. search needs) (λ c. search needs)
+    (λ c. search needs) (λ c. search needs) (λ c. search needs))
