@@ -6,10 +6,8 @@ use stereo::State;
 use stereo::states;
 
 mod channels;
-mod contents;
 mod input;
-mod marks;
-mod records;
+mod stereos;
 
 // Whether a payload's rows were all written, and the stereo state after it.
 struct Printed {
@@ -26,7 +24,7 @@ fn print_details(ok: bool, image: &[u8], k: usize, index: u8, state: State) -> P
     let end = part.end;
     let bytes = &image[start..end];
     if k % 2 == 1 {
-        return contents::print_stereo(ok, state, bytes);
+        return stereos::print_stereo(ok, state, bytes);
     }
     let written = channels::print_channel(ok, bytes, index);
     Printed { written, state }

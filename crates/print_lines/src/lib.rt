@@ -28,30 +28,27 @@ pub fn say_count(count: usize) -> bool {
     say_form(true, b"payloads #", &[count])
 }
 
-// The line of a channel payload: its gain, its non-zero lines and the bits used, or why it was refused.
-fn say_channel(k: usize, number: usize, gain: usize, lines: usize, bits: usize) -> bool {
-    if number != 0 {
-        return say_form(true, b"# channel refused #", &[k, number]);
-    }
-    say_form(
-        true,
-        b"# channel gain # lines # bits #",
-        &[k, gain, lines, bits],
-    )
-}
-
-// The line of a stereo payload: its envelopes and the bits used, or why it was refused.
-fn say_stereo(k: usize, number: usize, envelopes: usize, bits: usize) -> bool {
-    if number != 0 {
-        return say_form(true, b"# stereo refused #", &[k, number]);
-    }
-    say_form(true, b"# stereo envelopes # bits #", &[k, envelopes, bits])
-}
-
-// The line of a payload, from its four numbers: the refusal, or 0 and what it holds.
-pub fn say_payload(k: usize, number: usize, first: usize, second: usize, bits: usize) -> bool {
+// The line of a payload that was refused.
+fn say_refused(k: usize, number: usize) -> bool {
+    let numbers = [k, number];
     if k % 2 == 0 {
-        return say_channel(k, number, first, second, bits);
+        return say_form(true, b"# channel refused #", &numbers);
     }
-    say_stereo(k, number, first, bits)
+    say_form(true, b"# stereo refused #", &numbers)
+}
+
+// The line of a payload, from its four numbers: the refusal; or 0, then a channel stream's gain, non-zero lines and bits used, or a
+// stereo payload's envelopes, 0 and bits used.
+pub fn say_payload(k: usize, number: usize, first: usize, second: usize, bits: usize) -> bool {
+    if number != 0 {
+        return say_refused(k, number);
+    }
+    if k % 2 == 0 {
+        return say_form(
+            true,
+            b"# channel gain # lines # bits #",
+            &[k, first, second, bits],
+        );
+    }
+    say_form(true, b"# stereo envelopes # bits #", &[k, first, bits])
 }

@@ -1,8 +1,6 @@
-// What a stereo payload holds, printed.
+// What a stereo payload holds.
 ghost use Prim.Native.Nat.{_<_};
-use crate::Printed;
 use crate::marks;
-use crate::records;
 use print_lines::rows;
 use stereo::Contents;
 use stereo::Extension;
@@ -10,23 +8,19 @@ use stereo::Frame;
 use stereo::Header;
 use stereo::Phases;
 use stereo::Setup;
-use stereo::State;
 use stereo_indices::Row;
 
 // The header.
 fn print_header(ok: bool, h: Header) -> bool {
+    let sent = [
+        marks::mode(h.iid == 1, h.iidmode),
+        marks::mode(h.icc == 1, h.iccmode),
+        h.ext as usize,
+    ];
     if h.there != 1 {
-        return print_lines::say_form(ok, b"  header -", &[]);
+        return print_lines::say_form(ok, b"  header -", &sent);
     }
-    print_lines::say_form(
-        ok,
-        b"  header iid # icc # ext #",
-        &[
-            marks::mode(h.iid == 1, h.iidmode),
-            marks::mode(h.icc == 1, h.iccmode),
-            h.ext as usize,
-        ],
-    )
+    print_lines::say_form(ok, b"  header iid # icc # ext #", &sent)
 }
 
 // Borders as bytes; a border has 5 bits.
@@ -87,14 +81,12 @@ fn print_rows(
     icc: Row,
     p: Phases,
 ) -> bool {
-    let ipd = p.ipd;
-    let opd = p.opd;
-    let times = [iid.time, icc.time, ipd.time, opd.time];
+    let times = [iid.time, icc.time, p.ipd.time, p.opd.time];
     let ok = print_directions(ok, e, setup, phase, times);
     let ok = print_row(ok, b"  iid", iid);
     let ok = print_row(ok, b"  icc", icc);
-    let ok = print_row(ok, b"  ipd", ipd);
-    print_row(ok, b"  opd", opd)
+    let ok = print_row(ok, b"  ipd", p.ipd);
+    print_row(ok, b"  opd", p.opd)
 }
 
 // An envelope.
@@ -103,11 +95,9 @@ fn print_envelope(ok: bool, e: usize, setup: Setup, contents: Contents) -> bool
 {
     let iid = contents.iid;
     let icc = contents.icc;
-    let extension = contents.extension;
-    let part = extension.part;
-    let body = part.body;
-    let phases = body.phases;
-    print_rows(ok, e, setup, body.phase == 1, iid[e], icc[e], phases[e])
+    let phases = contents.extension.part.body.phases;
+    let phase = contents.extension.part.body.phase == 1;
+    print_rows(ok, e, setup, phase, iid[e], icc[e], phases[e])
 }
 
 // The envelopes, of which there are at most four.
@@ -121,55 +111,28 @@ fn print_envelopes(before: bool, count: usize, setup: Setup, contents: Contents)
     ok
 }
 
-// The extension: its size, and where it is not empty the phase flag and the fill bits.
+// The part of an extension that is there: its size, and where it is not empty the phase flag and the fill bits.
+fn print_part(ok: bool, size: usize, phase: u32, fill: u32, count: usize) -> bool {
+    let sent = [size, phase as usize];
+    if size == 0 {
+        return print_lines::say_form(ok, b"  extension size #", &sent);
+    }
+    rows::say_bits(ok, b"  extension size # phase # fill ", &sent, fill, count)
+}
+
+// The extension.
 fn print_extension(ok: bool, x: Extension) -> bool {
-    let part = x.part;
-    let body = part.body;
-    let size = (x.size as usize) + (x.esc as usize);
     if x.there != 1 {
         return print_lines::say_form(ok, b"  extension -", &[]);
     }
-    if size == 0 {
-        return print_lines::say_form(ok, b"  extension size 0", &[]);
-    }
-    rows::say_bits(
-        ok,
-        b"  extension size # phase # fill ",
-        &[size, body.phase as usize],
-        part.value,
-        part.count,
-    )
+    let size = (x.size as usize) + (x.esc as usize);
+    print_part(ok, size, x.part.body.phase, x.part.value, x.part.count)
 }
 
 // The contents, from the set-up after them.
-fn print_contents(ok: bool, contents: Contents, setup: Setup) -> bool {
-    let header = contents.header;
-    let frame = contents.frame;
-    let extension = contents.extension;
-    let ok = print_header(ok, header);
-    let ok = print_frame(ok, frame);
-    let ok = print_envelopes(ok, frame.envelopes, setup, contents);
-    print_extension(ok, extension)
-}
-
-// What a stereo payload holds, where it is accepted, and the state after it.
-fn print_accepted(ok: bool, number: u8, contents: Contents, state: State) -> bool {
-    if number != 0 {
-        return records::print_state(ok, state);
-    }
-    let setup = state.setup;
-    let ok = print_contents(ok, contents, setup);
-    records::print_state(ok, state)
-}
-
-// The contents of a stereo payload, where it is accepted, and the state after it, which comes back.
-pub fn print_stereo(ok: bool, state: State, bytes: &[u8]) -> Printed {
-    let r = stereo_reader::read(state, bytes, 0, bytes.len());
-    let next = r.state;
-    let contents = r.contents;
-    let written = print_accepted(ok, r.number, contents, next);
-    Printed {
-        written,
-        state: next,
-    }
+pub fn print_contents(ok: bool, contents: Contents, setup: Setup) -> bool {
+    let ok = print_header(ok, contents.header);
+    let ok = print_frame(ok, contents.frame);
+    let ok = print_envelopes(ok, contents.frame.envelopes, setup, contents);
+    print_extension(ok, contents.extension)
 }

@@ -32,14 +32,9 @@ fn print_record(ok: bool, form: &[u8], rec: Record) -> bool {
 
 // The set-up, the mark, and the four records.
 pub fn print_state(ok: bool, state: State) -> bool {
-    let setup = state.setup;
-    let iid = state.iid;
-    let icc = state.icc;
-    let ipd = state.ipd;
-    let opd = state.opd;
-    let ok = print_setup(ok, setup, state.instep);
-    let ok = print_record(ok, b"  record iid #", iid);
-    let ok = print_record(ok, b"  record icc #", icc);
-    let ok = print_record(ok, b"  record ipd #", ipd);
-    print_record(ok, b"  record opd #", opd)
+    let ok = print_setup(ok, state.setup, state.instep);
+    let ok = print_record(ok, b"  record iid #", state.iid);
+    let ok = print_record(ok, b"  record icc #", state.icc);
+    let ok = print_record(ok, b"  record ipd #", state.ipd);
+    print_record(ok, b"  record opd #", state.opd)
 }
