@@ -1,7 +1,7 @@
 // What a stereo payload holds, printed.
 use crate::Printed;
-use print_stereo::contents;
-use print_stereo::records;
+use print_payload::contents;
+use print_payload::records;
 use stereo::Contents;
 use stereo::State;
 
