@@ -104,11 +104,9 @@ fn stereo_turn(part: &[u8], state: State) -> Turn
         ≡ stereoRow (stereoIn state (now (part .entry)))) × (r .state ≡ stereoIn state (now (part .entry)) .state) ⌝ }
 {
     let r = stereo_reader::read(state, part, 0, part.len());
-    let contents = r.contents;
-    let frame = contents.frame;
     let row = Row {
         number: wide(r.number),
-        first: frame.envelopes,
+        first: r.contents.frame.envelopes,
         second: 0,
         bits: r.bits,
     };
@@ -142,8 +140,7 @@ fn fill_rows(image: &[u8], count: usize, index: u8, rows: &mut [usize])
         let start = part.start;
         let end = part.end;
         let turn = turn_of(&image[start..end], k, index, state);
-        let row = turn.row;
-        put_row(rows, 4 * k, row);
+        put_row(rows, 4 * k, turn.row);
         state = turn.state;
         k += 1;
     }

@@ -1,14 +1,13 @@
 // A tag image on standard input, printed: the line of each payload, and in full what it holds and the stereo state after it.
-ghost use Prim.Native.Nat.{_≤_};
+ghost use Prim.Native.Nat.{_≤_, _<_};
 ghost use lib.ListN.{length};
 ghost use Rattle.io.specs.Counts.{Counts};
 use stereo::State;
 use stereo::states;
 
 mod channels;
-mod contents;
 mod input;
-mod records;
+mod stereos;
 
 // Whether a payload's rows were all written, and the stereo state after it.
 struct Printed {
@@ -17,20 +16,44 @@ struct Printed {
 }
 
 // What the k-th payload holds, from the state before it; the state after it comes back.
-fn print_details(image: &[u8], k: usize, index: u8, state: State) -> Printed
+fn print_details(ok: bool, image: &[u8], k: usize, index: u8, state: State) -> Printed
     requires { ⌜ length (now image) ≤ 65535 ⌝ }
 {
     let part = image::part_of(image, k);
     let start = part.start;
     let end = part.end;
     let bytes = &image[start..end];
-    if k % 2 == 0 {
-        return Printed {
-            written: channels::print_channel(bytes, index),
-            state: state,
-        };
+    if k % 2 == 1 {
+        return stereos::print_stereo(ok, state, bytes);
     }
-    contents::print_stereo(state, bytes)
+    let written = channels::print_channel(ok, bytes, index);
+    Printed { written, state }
+}
+
+// The k-th payload's line, from its four numbers in the outline.
+fn print_line(k: usize, rows: &[usize]) -> bool
+    requires { ⌜ (k < 1024) × (4096 ≤ length (now rows)) ⌝ }
+{
+    let at = 4 * k;
+    print_lines::say_payload(k, rows[at], rows[at + 1], rows[at + 2], rows[at + 3])
+}
+
+// The k-th payload: its line, and in full what it holds, from the state before it.
+fn print_payload(
+    image: &[u8],
+    k: usize,
+    index: u8,
+    rows: &[usize],
+    full: bool,
+    state: State,
+) -> Printed
+    requires { ⌜ (length (now image) ≤ 65535) × (k < 1024) × (4096 ≤ length (now rows)) ⌝ }
+{
+    let written = print_line(k, rows);
+    if full {
+        return print_details(written, image, k, index, state);
+    }
+    Printed { written, state }
 }
 
 // The payloads of an image that has this outline, in their order, up to the first line that is not written; whether all were.
@@ -40,18 +63,12 @@ fn print_payloads(image: &[u8], count: usize, index: u8, rows: &[usize], full: b
     let mut state = states::fresh();
     let mut k = 0;
     while k < count {
-        let at = 4 * k;
-        if !print_lines::say_payload(k, rows[at], rows[at + 1], rows[at + 2], rows[at + 3]) {
+        let printed = print_payload(image, k, index, rows, full, state);
+        if !printed.written {
             return false;
         }
-        if full {
-            let printed = print_details(image, k, index, state);
-            if !printed.written {
-                return false;
-            }
-            let next = printed.state;
-            state = next;
-        }
+        let next = printed.state;
+        state = next;
         k += 1;
     }
     true

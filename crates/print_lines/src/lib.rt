@@ -1,70 +1,54 @@
-// What the programs print of a tag image: the lines of the listing, and rows of numbers for the dump.
-// Each `say` answers whether its line was written, and a caller prints nothing after one that was not.
+// What the programs print of a tag image. A form is words with a mark `#` in place of each number.
+// Each `say` answers whether its line was written. One that is told that a line before it was not (`ok` is false) writes nothing.
 
 pub mod rows;
 mod text;
 
+// What may stand in place of a number: a dash where there is none, and the letters of the two directions of coding.
+pub const NONE: usize = 4294967296 + 45;
+
+pub const TIME: usize = 4294967296 + 116;
+
+pub const FREQUENCY: usize = 4294967296 + 102;
+
+// A form, with the numbers in place of its marks.
+pub fn say_form(ok: bool, form: &[u8], numbers: &[usize]) -> bool {
+    let mut line = [0u8; 128];
+    let at = text::put_form(&mut line, 0, form, numbers);
+    text::say(ok, &mut line, at)
+}
+
 // The line of a bad image.
 pub fn say_refused_image(number: u8) -> bool {
-    let mut line = [0u8; 32];
-    let at = text::put(&mut line, 0, b"image refused");
-    let at = text::put_next(&mut line, at, number as u64);
-    text::say(&mut line, at)
+    say_form(true, b"image refused #", &[number as usize])
 }
 
 // The first line of a good one.
 pub fn say_count(count: usize) -> bool {
-    let mut line = [0u8; 32];
-    let at = text::put(&mut line, 0, b"payloads");
-    let at = text::put_next(&mut line, at, count as u64);
-    text::say(&mut line, at)
-}
-
-// The line of a channel stream: its gain, its non-zero lines, and the bits used.
-fn say_channel(k: usize, gain: usize, lines: usize, bits: usize) -> bool {
-    let mut line = [0u8; 96];
-    let at = text::put_number(&mut line, 0, k as u64);
-    let at = text::put(&mut line, at, b" channel gain");
-    let at = text::put_next(&mut line, at, gain as u64);
-    let at = text::put(&mut line, at, b" lines");
-    let at = text::put_next(&mut line, at, lines as u64);
-    let at = text::put(&mut line, at, b" bits");
-    let at = text::put_next(&mut line, at, bits as u64);
-    text::say(&mut line, at)
-}
-
-// The line of a stereo payload: its envelopes, and the bits used.
-fn say_stereo(k: usize, envelopes: usize, bits: usize) -> bool {
-    let mut line = [0u8; 96];
-    let at = text::put_number(&mut line, 0, k as u64);
-    let at = text::put(&mut line, at, b" stereo envelopes");
-    let at = text::put_next(&mut line, at, envelopes as u64);
-    let at = text::put(&mut line, at, b" bits");
-    let at = text::put_next(&mut line, at, bits as u64);
-    text::say(&mut line, at)
+    say_form(true, b"payloads #", &[count])
 }
 
 // The line of a payload that was refused.
-fn say_refused(k: usize, what: &[u8], number: usize) -> bool {
-    let mut line = [0u8; 64];
-    let at = text::put_number(&mut line, 0, k as u64);
-    let at = text::put(&mut line, at, b" ");
-    let at = text::put(&mut line, at, what);
-    let at = text::put(&mut line, at, b" refused");
-    let at = text::put_next(&mut line, at, number as u64);
-    text::say(&mut line, at)
+fn say_refused(k: usize, number: usize) -> bool {
+    let numbers = [k, number];
+    if k % 2 == 0 {
+        return say_form(true, b"# channel refused #", &numbers);
+    }
+    say_form(true, b"# stereo refused #", &numbers)
 }
 
-// The line of a payload, from its four numbers: the refusal, or 0 and what it holds.
+// The line of a payload, from its four numbers: the refusal; or 0, then a channel stream's gain, non-zero lines and bits used, or a
+// stereo payload's envelopes, 0 and bits used.
 pub fn say_payload(k: usize, number: usize, first: usize, second: usize, bits: usize) -> bool {
-    if k % 2 == 0 {
-        if number != 0 {
-            return say_refused(k, b"channel", number);
-        }
-        return say_channel(k, first, second, bits);
-    }
     if number != 0 {
-        return say_refused(k, b"stereo", number);
+        return say_refused(k, number);
     }
-    say_stereo(k, first, bits)
+    if k % 2 == 0 {
+        return say_form(
+            true,
+            b"# channel gain # lines # bits #",
+            &[k, first, second, bits],
+        );
+    }
+    say_form(true, b"# stereo envelopes # bits #", &[k, first, bits])
 }

@@ -1,64 +1,91 @@
 // A line of text: words and numbers are put into a lent line, which is then written out at once.
+// Each `put` answers the place after what it put; what does not fit is dropped.
 
-// Words are put at a place of the line; what does not fit is dropped. The place after them comes back.
+// A byte.
+pub fn put_byte(line: &mut [u8], at: usize, byte: u8) -> usize {
+    if line.len() <= at {
+        return at;
+    }
+    line[at] = byte;
+    at + 1
+}
+
+// Words.
 pub fn put(line: &mut [u8], at: usize, words: &[u8]) -> usize {
     let mut to = at;
     let mut i = 0;
     while i < words.len() {
-        if line.len() <= to {
-            return to;
-        }
-        line[to] = words[i];
-        to += 1;
+        to = put_byte(line, to, words[i]);
         i += 1;
     }
     to
 }
 
-// A number is put in decimal.
-pub fn put_number(line: &mut [u8], at: usize, n: u64) -> usize {
+// A number in decimal; one of more than 32 bits stands for the letter of its last 8.
+pub fn put_number(line: &mut [u8], at: usize, n: usize) -> usize {
+    if 4294967296 <= n {
+        return put_byte(line, at, (n % 256) as u8);
+    }
     let mut digits = [0u8; 20];
-    let count = io::decimal(n, &mut digits);
+    let count = io::decimal(n as u64, &mut digits);
     put(line, at, &digits[..count])
 }
 
-// A space and a number.
-pub fn put_next(line: &mut [u8], at: usize, n: u64) -> usize {
-    let to = put(line, at, b" ");
-    put_number(line, to, n)
+// A byte of a form: a mark is the number at this place, where there is one, and any other byte is itself.
+fn put_marked(line: &mut [u8], at: usize, byte: u8, numbers: &[usize], place: usize) -> usize {
+    if byte != b'#' {
+        return put_byte(line, at, byte);
+    }
+    if numbers.len() <= place {
+        return at;
+    }
+    put_number(line, at, numbers[place])
 }
 
-// A space and a byte's number.
-pub fn put_byte(line: &mut [u8], at: usize, n: u8) -> usize {
-    put_next(line, at, n as u64)
+// A form, with the numbers in place of its marks.
+pub fn put_form(line: &mut [u8], at: usize, form: &[u8], numbers: &[usize]) -> usize {
+    let mut to = at;
+    let mut i = 0;
+    let mut place = 0;
+    while i < form.len() {
+        let byte = form[i];
+        to = put_marked(line, to, byte, numbers, place);
+        i += 1;
+        if byte == b'#' {
+            place += 1;
+        }
+    }
+    to
 }
 
 // How far a number is from 0.
-fn magnitude(n: i16) -> u64 {
+fn magnitude(n: i16) -> usize {
     let wide = n as i64;
     if wide < 0 {
-        return (0 - wide) as u64;
+        return (0 - wide) as usize;
     }
-    wide as u64
+    wide as usize
+}
+
+// The sign of a number below 0.
+fn put_sign(line: &mut [u8], at: usize, n: i16) -> usize {
+    if n < 0 {
+        return put_byte(line, at, b'-');
+    }
+    at
 }
 
 // A number with its sign.
 pub fn put_signed(line: &mut [u8], at: usize, n: i16) -> usize {
-    if n < 0 {
-        let to = put(line, at, b"-");
-        return put_number(line, to, magnitude(n));
-    }
-    put_number(line, at, magnitude(n))
-}
-
-// A space and an index.
-pub fn put_index(line: &mut [u8], at: usize, n: i8) -> usize {
-    let to = put(line, at, b" ");
-    put_signed(line, to, n as i16)
+    let to = put_sign(line, at, n);
+    put_number(line, to, magnitude(n))
 }
 
 // The line is ended and written out, whole or not at all; the answer is whether all of it was written.
-pub fn say(line: &mut [u8], at: usize) -> bool {
+pub fn say(ok: bool, line: &mut [u8], at: usize) -> bool {
+    if !ok {
+        return false;
+    }
     if line.len() <= at {
         return false;
     }

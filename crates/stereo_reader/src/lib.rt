@@ -111,13 +111,12 @@ pub fn read_bytes(state: State, s: &[u8]) -> Reading
     let before = read_from(state);
     let read = payloads::read_payload(s, end, before, &codes, &lens);
     let ended = read.ended;
-    let contents = read.contents;
     match ended {
         Ended::At(bits) => {
             if 7 < bits::remaining(bits, end) {
                 return refused_at(12, state);
             }
-            taken(state, contents, bits)
+            taken(state, read.contents, bits)
         }
         Ended::Refused(number, _) => refused_at(number, state),
     }

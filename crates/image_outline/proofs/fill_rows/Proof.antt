@@ -28,7 +28,7 @@ loop-holds c = (omega arith, c .fresh .ensures, refl, put-none (c .before .befor
 loop-again : tie.Need-loop-again Inv-loop μ-loop
 loop-again c =
     let put = c .before .before .before in
-    let turn = put .before .before .before in
+    let turn = put .before .before in
     let part = turn .before .before in
     let l = part .before .before .loop in
     let a = part .before .before .before .before .before .before .args in

@@ -8,7 +8,7 @@ use Rattle.image_outline.proofs.stereo_turn.Tie as tie
 returns : tie.Need-returns
 unfolding stereoIn
 returns c =
-    let r = c .before .before .before .before .read .ensures in
+    let r = c .before .before .read .ensures in
     (rw (c .before .wide .ensures .0, r), rw r)
 
 pub stereo-turn-spec : {M : Type 1} → statement M

@@ -10,7 +10,7 @@ returns : tie.Need-returns
 returns c =
     let m = c .before .before in
     let e = m .before .before in
-    let r = e .before .before .before in
+    let r = e .before .before in
     let f = r .before .before .before in
     let q = rw (f .read-from .ensures, f .before .looked-at .ensures) at
     (ended-is (r .read-payload .result .contents) (r .read-payload .ensures) (e .ended .given .1)) in
@@ -20,7 +20,7 @@ returns-2 : tie.Need-returns-2
 returns-2 c =
     let m = c .before .before in
     let e = m .before .before in
-    let r = e .before .before .before in
+    let r = e .before .before in
     let f = r .before .before .before in
     let q = rw (f .read-from .ensures, f .before .looked-at .ensures) at
     (ended-is (r .read-payload .result .contents) (r .read-payload .ensures) (e .ended .given .1)) in
@@ -29,7 +29,7 @@ returns-2 c =
 returns-3 : tie.Need-returns-3
 returns-3 c =
     let e = c .before .before in
-    let r = e .before .before .before in
+    let r = e .before .before in
     let f = r .before .before .before in
     let q = rw (f .read-from .ensures, f .before .looked-at .ensures) at
     (ended-is (r .read-payload .result .contents) (r .read-payload .ensures) (e .ended2 .given .1)) in

@@ -2,14 +2,14 @@
 -- Assumes nothing.
 use Prim.Native.Nat.{_≤_, _-_}
 use borrow.Author.Needs.{needs}
-use Rattle.print.proofs.contents.print_envelopes.Statement.{statement}
-use Rattle.print.proofs.contents.print_envelopes.Tie as tie
+use Rattle.print_payload.proofs.contents.print_envelopes.Statement.{statement}
+use Rattle.print_payload.proofs.contents.print_envelopes.Tie as tie
 
 abbrev Inv-loop : tie.InvT-loop
-Inv-loop count state contents e₀ e = e ≤ 4
+Inv-loop before count setup contents ok₀ e₀ ok e = e ≤ 4
 
 abbrev μ-loop : tie.MeasureT-loop
-μ-loop count state contents e₀ e = 4 - e
+μ-loop before count setup contents ok₀ e₀ ok e = 4 - e
 
 pub print-envelopes-spec : {M : Type 1} → statement M
 print-envelopes-spec =
