@@ -1,7 +1,7 @@
 // What a stereo payload holds, printed.
 use crate::Printed;
-use print_payload::contents;
-use print_payload::records;
+use print_lines::contents;
+use print_lines::records;
 use stereo::Contents;
 use stereo::State;
 

@@ -1,18 +1,16 @@
-// What the programs print of a tag image. A form is words with a mark `#` in place of each number.
-// Each `say` answers whether its line was written. One that is told that a line before it was not (`ok` is false) writes nothing.
+// The lines that the programs print: of each payload one in the listing, and in a dump what it holds and the stereo state after it.
+// A form is words with a mark `#` in place of each number. A line is written where all lines before it were (`ok`), and the answer is
+// whether it was.
 
-pub mod rows;
+pub mod channels;
+pub mod contents;
+mod marks;
+pub mod records;
+mod rows;
 mod text;
 
-// What may stand in place of a number: a dash where there is none, and the letters of the two directions of coding.
-pub const NONE: usize = 4294967296 + 45;
-
-pub const TIME: usize = 4294967296 + 116;
-
-pub const FREQUENCY: usize = 4294967296 + 102;
-
 // A form, with the numbers in place of its marks.
-pub fn say_form(ok: bool, form: &[u8], numbers: &[usize]) -> bool {
+fn say_form(ok: bool, form: &[u8], numbers: &[usize]) -> bool {
     let mut line = [0u8; 128];
     let at = text::put_form(&mut line, 0, form, numbers);
     text::say(ok, &mut line, at)

@@ -2,8 +2,8 @@
 -- Assumes nothing.
 use Prim.Native.Nat.{_≤_, _-_, _*_}
 use borrow.Author.Needs.{needs}
-use Rattle.print_payload.proofs.channels.places.Statement.{statement}
-use Rattle.print_payload.proofs.channels.places.Tie as tie
+use Rattle.print_lines.proofs.channels.places.Statement.{statement}
+use Rattle.print_lines.proofs.channels.places.Tie as tie
 
 abbrev Inv-loop : tie.InvT-loop
 Inv-loop groups bands n₀ g₀ n g = (n ≤ 255 * g) × (g ≤ groups)

@@ -2,8 +2,8 @@
 -- Assumes nothing.
 use Prim.Native.Nat.{_≤_, _-_}
 use borrow.Author.Needs.{needs}
-use Rattle.print_payload.proofs.contents.print_envelopes.Statement.{statement}
-use Rattle.print_payload.proofs.contents.print_envelopes.Tie as tie
+use Rattle.print_lines.proofs.contents.print_envelopes.Statement.{statement}
+use Rattle.print_lines.proofs.contents.print_envelopes.Tie as tie
 
 abbrev Inv-loop : tie.InvT-loop
 Inv-loop before count setup contents ok₀ e₀ ok e = e ≤ 4

@@ -1,6 +1,6 @@
 // What a channel payload holds.
+use crate::rows;
 use channel::Reading;
-use print_lines::rows;
 
 // How many books and scale factors there are: so many bands in each group.
 fn places(groups: u8, bands: u8) -> usize {

@@ -1,7 +1,7 @@
 // What a stereo payload holds.
 ghost use Prim.Native.Nat.{_<_};
 use crate::marks;
-use print_lines::rows;
+use crate::rows;
 use stereo::Contents;
 use stereo::Extension;
 use stereo::Frame;
@@ -18,9 +18,9 @@ fn print_header(ok: bool, h: Header) -> bool {
         h.ext as usize,
     ];
     if h.there != 1 {
-        return print_lines::say_form(ok, b"  header -", &sent);
+        return crate::say_form(ok, b"  header -", &sent);
     }
-    print_lines::say_form(ok, b"  header iid # icc # ext #", &sent)
+    crate::say_form(ok, b"  header iid # icc # ext #", &sent)
 }
 
 // Borders as bytes; a border has 5 bits.
@@ -52,7 +52,7 @@ fn print_frame(ok: bool, f: Frame) -> bool {
 
 // How the four kinds of an envelope were coded; level and coherence are sent where they are on, phases together.
 fn print_directions(ok: bool, e: usize, setup: Setup, phase: bool, times: [u32; 4]) -> bool {
-    print_lines::say_form(
+    crate::say_form(
         ok,
         b"  envelope # iid # icc # ipd # opd #",
         &[
@@ -115,7 +115,7 @@ fn print_envelopes(before: bool, count: usize, setup: Setup, contents: Contents)
 fn print_part(ok: bool, size: usize, phase: u32, fill: u32, count: usize) -> bool {
     let sent = [size, phase as usize];
     if size == 0 {
-        return print_lines::say_form(ok, b"  extension size #", &sent);
+        return crate::say_form(ok, b"  extension size #", &sent);
     }
     rows::say_bits(ok, b"  extension size # phase # fill ", &sent, fill, count)
 }
@@ -123,7 +123,7 @@ fn print_part(ok: bool, size: usize, phase: u32, fill: u32, count: usize) -> boo
 // The extension.
 fn print_extension(ok: bool, x: Extension) -> bool {
     if x.there != 1 {
-        return print_lines::say_form(ok, b"  extension -", &[]);
+        return crate::say_form(ok, b"  extension -", &[]);
     }
     let size = (x.size as usize) + (x.esc as usize);
     print_part(ok, size, x.part.body.phase, x.part.value, x.part.count)

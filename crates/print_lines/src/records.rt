@@ -1,13 +1,13 @@
 // The stereo state after a payload.
 use crate::marks;
-use print_lines::rows;
+use crate::rows;
 use stereo::Setup;
 use stereo::State;
 use stereo_indices::Record;
 
 // The set-up, of whose modes 7 was never sent, and the mark.
 fn print_setup(ok: bool, setup: Setup, instep: bool) -> bool {
-    print_lines::say_form(
+    crate::say_form(
         ok,
         b"  state iid # icc # enabled # # # step #",
         &[
@@ -24,7 +24,7 @@ fn print_setup(ok: bool, setup: Setup, instep: bool) -> bool {
 // A kind's record; mode 7 is none.
 fn print_record(ok: bool, form: &[u8], rec: Record) -> bool {
     if rec.mode == 7 {
-        return print_lines::say_form(ok, form, &[print_lines::NONE]);
+        return crate::say_form(ok, form, &[marks::NONE]);
     }
     let indices = rec.indices;
     rows::say_indices(ok, form, &[rec.mode as usize], &indices)
