@@ -1,13 +1,15 @@
 -- The call ends in one of three ways, and `WriteLaws` says of each what its definition gives.
 -- Assumes nothing.
+use Prim.Native.Nat.{_≤_}
 use mathlib.Core.Path.{_≡_, sym, ap, _∙_}
+use mathlib.Core.Bool.{true}
 use native.Mathlib.Omega.{arith}
 use lib.ListN.{length}
 use Rattle.stereo_writer.specs.Writing.{writtenOver}
 use Rattle.stereo_writer.specs.declared.Written.{Written}
-use Rattle.c_layout.specs.StateBytes.{stateAt}
+use Rattle.c_layout.specs.StateBytes.{soundBytes, stateAt}
 use Rattle.c_layout.specs.ContentsBytes.{contentsAt}
-use Rattle.c_writer.specs.WriteStereo.{stereoWriting}
+use Rattle.c_writer.specs.WriteStereo.{writeCallRefusal, stereoWriting}
 use Rattle.c_layout.proofs.StateLaws.{sound-long}
 use Rattle.c_writer.proofs.Passed.{write-passed}
 use Rattle.c_writer.proofs.WriteLaws.{call-refused, contents-refused, accepted}
@@ -22,19 +24,22 @@ returns c =
     call-refused (a .state .now) (a .contents .now) (a .out .now) (j .write-call-refusal .result) (j .write-call-refusal .ensures)
     (c .if1 .taken)
 
+abbrev start : tie.Else1 → tie.Start
+start c = c .before .before .before .before .before .before
+
+-- past the first test nothing was refused before the contents are written
+unrefused : (c : tie.Else1) → writeCallRefusal (start c .args .state .now) (length (start c .args .contents .now)) ≡ 0
+unrefused c = sym (c .before .write-call-refusal .ensures) ∙ c .if1 .left
+
+-- so the state is sound, and the contents have their bytes
+passed : (c : tie.Else1) → (soundBytes (start c .args .state .now) ≡ true) × (582 ≤ length (start c .args .contents .now))
+passed c = write-passed _ _ (unrefused c)
+
 state-at-requires : tie.Need-state-at-requires
-state-at-requires c κs =
-    let j = c .before .before in
-    let a = j .before .before .before .before .before .args in
-    sound-long (a .state .now)
-    (write-passed (a .state .now) (length (a .contents .now)) (sym (j .write-call-refusal .ensures) ∙ c .before .if1 .left) .0)
+state-at-requires c κs = sound-long _ (passed (c .before) .0)
 
 contents-at-requires : tie.Need-contents-at-requires
-contents-at-requires c κs =
-    let j = c .before .before .before .before in
-    let a = j .before .before .before .before .before .args in
-    write-passed (a .state .now) (length (a .contents .now))
-    (sym (j .write-call-refusal .ensures) ∙ c .before .before .before .if1 .left) .1
+contents-at-requires c κs = passed (c .before .before .before) .1
 
 returns-2 : tie.Need-returns-2
 returns-2 c =
@@ -42,36 +47,26 @@ returns-2 c =
     let wanted = w .before .before in
     let state = wanted .before .before in
     let tested = state .before .before in
-    let j = tested .before in
-    let a = j .before .before .before .before .before .args in
-    let e = sym (j .write-call-refusal .ensures) ∙ tested .if1 .left in
+    let a = tested .before .before .before .before .before .before .args in
     let r : w .write .result ≡ stereoWriting (a .state .now) (a .contents .now) (length (a .out .now)) =
     w .write .ensures .0 ∙ rw (state .state-at .ensures, wanted .contents-at .ensures) in
     let out : w .write .last .0
     ≡ writtenOver (stereoWriting (a .state .now) (a .contents .now) (length (a .out .now))) (stateAt (a .state .now))
     (contentsAt (a .contents .now)) (a .out .now) =
     w .write .ensures .1 ∙ rw (r, state .state-at .ensures, wanted .contents-at .ensures) in
-    let ends = contents-refused (a .state .now) (a .contents .now) (a .out .now) e (rw r at (c .before .if2 .taken)) in
+    let ends = contents-refused (a .state .now) (a .contents .now) (a .out .now) (unrefused tested) (rw r at (c .before .if2 .taken)) in
     (ap (λ (z : Written). z .number) r ∙ ends .0, (ends .1 .0, (ends .1 .1 .0, out ∙ ends .1 .1 .1)))
 
 put-state-requires : tie.Need-put-state-requires
 put-state-requires c κs =
     let w = c .before .before .before .before .before in
-    let tested = w .before .before .before .before .before .before in
-    let j = tested .before in
-    let a = j .before .before .before .before .before .args in
-    sound-long (a .state .now)
-    (write-passed (a .state .now) (length (a .contents .now)) (sym (j .write-call-refusal .ensures) ∙ tested .if1 .left) .0)
+    sound-long _ (passed (w .before .before .before .before .before .before) .0)
 
 put-requires : tie.Need-put-requires
 put-requires c κs =
     let w = c .before .before .before .before .before .before .before .before .before .before .before in
-    let tested = w .before .before .before .before .before .before in
-    let j = tested .before in
-    let a = j .before .before .before .before .before .args in
-    let long = write-passed (a .state .now) (length (a .contents .now)) (sym (j .write-call-refusal .ensures) ∙ tested .if1 .left) .1 in
     let four : length (c .before .before .word-of .result) ≡ 4 = search needs in
-    omega (arith, long)
+    omega (arith, passed (w .before .before .before .before .before .before) .1)
 
 returns-3 : tie.Need-returns-3
 returns-3 c =
@@ -79,9 +74,7 @@ returns-3 c =
     let wanted = w .before .before in
     let state = wanted .before .before in
     let tested = state .before .before in
-    let j = tested .before in
-    let a = j .before .before .before .before .before .args in
-    let e = sym (j .write-call-refusal .ensures) ∙ tested .if1 .left in
+    let a = tested .before .before .before .before .before .before .args in
     let r : w .write .result ≡ stereoWriting (a .state .now) (a .contents .now) (length (a .out .now)) =
     w .write .ensures .0 ∙ rw (state .state-at .ensures, wanted .contents-at .ensures) in
     let out : w .write .last .0
@@ -89,7 +82,7 @@ returns-3 c =
     (contentsAt (a .contents .now)) (a .out .now) =
     w .write .ensures .1 ∙ rw (r, state .state-at .ensures, wanted .contents-at .ensures) in
     let put = c .before .before .before .before .before .before .before .before in
-    let ends = accepted (a .state .now) (a .contents .now) (a .out .now) e (rw r at (put .before .before .if2 .left)) in
+    let ends = accepted (a .state .now) (a .contents .now) (a .out .now) (unrefused tested) (rw r at (put .before .before .if2 .left)) in
     let bits = c .before .before in (
       ends .0,
       (
