@@ -1,15 +1,18 @@
 -- The numbers that a reader refuses with: all pass a test. Proved of each primitive, and kept by the ways of putting readers together.
 -- Assumes nothing.
 use Prim.Native.Nat.{ℕ, zero, suc, _+_, _-_}
-use mathlib.Core.Path.{_≡_, refl, subst}
+use mathlib.Core.Path.{_≡_, refl, sym, subst}
 use mathlib.Core.List.{List, [], _∷_, _++_}
-use mathlib.Core.Bool.{Bool, true, false}
+use mathlib.Core.Bool.{Bool, true, false, _||_}
 use native.Mathlib.Omega.{arith}
 use lib.Dec.{leb, eqb}
+use borrow.Author.Tests.{eqb-true}
+use Rattle.bits.specs.Lists.{oneOf}
+use Rattle.bits.proofs.Bools.{true-false}
 use Rattle.bits.specs.Bits.{bitsFrom}
 use Rattle.bits.specs.Reader.{Answer, got, refused, Reader, give, after, _>>=_, pick, tested, expecting}
 use Rattle.bits.specs.Field.{field, zeroBit}
-use Rattle.bits.specs.Loop.{counted, more, listed}
+use Rattle.bits.specs.Loop.{counted, more, listed, turns, while}
 use Rattle.bits.specs.Places.{placed, oneField, here}
 use Rattle.bits.specs.Inside.{renumbered, inside, Fill, leftOver}
 use Rattle.bits.specs.Payload.{ended, whole}
@@ -17,6 +20,20 @@ use Rattle.bits.specs.Payload.{ended, whole}
 -- a value that was given is no refusal
 not-refused : {A X : Type 0} {a : A} {m n p : ℕ} → got a m ≡ refused n p → X
 not-refused e = let z : _≡_ {A = ℕ} 0 1 = cc in absurd (omega arith)
+
+-- a test that all of some numbers pass
+abbrev pub Pass : (ℕ → Bool) → List ℕ → Type 0
+Pass t [] = Unit
+Pass t (k ∷ ks) = (t k ≡ true) × Pass t ks
+
+-- is passed by a number that is one of them
+pub one-of : (t : ℕ → Bool) (ks : List ℕ) → Pass t ks → (n : ℕ) → oneOf ks n ≡ true → t n ≡ true
+one-of t [] p n e = absurd (true-false false e refl)
+one-of t (k ∷ ks) p n e = first (eqb n k) refl (one-of t ks (p .1) n) e
+  where
+    first : (b : Bool) → eqb n k ≡ b → (oneOf ks n ≡ true → t n ≡ true) → (b || oneOf ks n) ≡ true → t n ≡ true
+    first true q later h = subst (λ (j : ℕ). t j ≡ true) (sym (eqb-true n k q)) (p .0)
+    first false q later h = later h
 
 module _ (among : ℕ → Bool) where
   pub record Numbered {A : Type 0} (r : Reader A) : Type 0 where
@@ -80,6 +97,18 @@ module _ (among : ℕ → Bool) where
   unfolding listed
   listed-numbered f g n =
       counted-numbered (more f) (λ i xs. bind-numbered (f xs) (λ x. give (xs ++ x ∷ [])) (g xs) (λ x. give-numbered (xs ++ x ∷ []))) 0 n []
+
+  turns-numbered : {S : Type 0} (on : S → Bool) (f : S → Reader S) → ((x : S) → Numbered (f x)) → (n : ℕ) (x : S)
+      → Numbered (turns n on f x)
+  unfolding turns
+  turns-numbered on f g zero x = give-numbered x
+  turns-numbered on f g (suc n) x =
+      let again = bind-numbered (f x) (turns n on f) (g x) (turns-numbered on f g n) in
+      pick-numbered (on x) (f x >>= turns n on f) (give x) again (give-numbered x)
+
+  pub while-numbered : {S : Type 0} (on : S → Bool) (f : S → Reader S) → ((x : S) → Numbered (f x)) → (x : S) → Numbered (while on f x)
+  unfolding while
+  while-numbered on f g x = record { law = λ s at end n p e. turns-numbered on f g (suc (end - at)) x .law s at end n p e }
 
   pub oneField-numbered : {A : Type 0} (r : Reader A) → Numbered r → Numbered (oneField r)
   unfolding oneField

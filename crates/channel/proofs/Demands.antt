@@ -3,22 +3,23 @@
 use Prim.Native.Nat.{ℕ, _*_, _<_}
 use mathlib.Core.Path.{_≡_, sym, _∙_}
 use mathlib.Core.List.{List}
+use mathlib.Core.Bool.{true}
 use lib.IntN.{ℤ}
 use lib.ListN.{length, take}
 use Rattle.bits.specs.Reader.{got, refused}
-use Rattle.bits.specs.Payload.{range, whole}
+use Rattle.bits.specs.Payload.{inBuffer, range, whole}
 use Rattle.bits.proofs.PayloadLaws.{whole-cut}
 use Rattle.channel.specs.Stream.{Stream, stream}
-use Rattle.channel.specs.Promise.{channel, readingOf, linesAfter, factorsAfter, booksAfter}
+use Rattle.channel.specs.Promise.{channelCallRefusal, channel, readingOf, linesAfter, factorsAfter, booksAfter}
 use Rattle.channel.specs.declared.Reading.{Reading}
 use Rattle.channel.proofs.StreamLawful.{stream-lawful}
 
--- two buffers of one length that have the same bytes in the range give the same answer
-pub only-the-range : (buf other : List ℕ) (start end index lines factors books : ℕ) → length buf ≡ length other
-    → range buf start end ≡ range other start end
-    → channel buf start end index lines factors books ≡ channel other start end index lines factors books
-unfolding channel
-only-the-range buf other start end index lines factors books l r = rw (l, r)
+-- ranges of any two buffers that hold the same bytes give the same answer
+pub only-the-range : (buf other : List ℕ) (start end start′ end′ index lines factors books : ℕ) → inBuffer start end (length buf) ≡ true
+    → inBuffer start′ end′ (length other) ≡ true → range buf start end ≡ range other start′ end′
+    → channel buf start end index lines factors books ≡ channel other start′ end′ index lines factors books
+unfolding channel channelCallRefusal
+only-the-range buf other start end start′ end′ index lines factors books p q r = rw (p, q, r)
 
 -- a payload that is cut at a byte, so that fewer bits are there than it used, is refused with 10
 pub cut-is-10 : (index : ℕ) (bytes : List ℕ) (next : ℕ) (x : Stream) (k : ℕ) → whole (stream index) bytes ≡ got x next → 8 * k < next

@@ -30,9 +30,9 @@ use Rattle.promises.specs.Run.{stereo}
 use Rattle.promises.proofs.Turns.{steady}
 
 -- demand 1, of a channel stream: no bit outside the range counts, and no cut goes unseen
-pub channel-outside : (buf other : List ℕ) (start end index lines factors books : ℕ) → length buf ≡ length other
-    → range buf start end ≡ range other start end
-    → channel buf start end index lines factors books ≡ channel other start end index lines factors books
+pub channel-outside : (buf other : List ℕ) (start end start′ end′ index lines factors books : ℕ)
+    → inBuffer start end (length buf) ≡ true → inBuffer start′ end′ (length other) ≡ true → range buf start end ≡ range other start′ end′
+    → channel buf start end index lines factors books ≡ channel other start′ end′ index lines factors books
 channel-outside = only-the-range
 
 pub channel-cut : (index : ℕ) (bytes : List ℕ) (next : ℕ) (x : Stream) (k : ℕ) → whole (stream index) bytes ≡ got x next → 8 * k < next

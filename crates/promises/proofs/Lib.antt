@@ -7,3 +7,7 @@ pub mod Bench
 pub mod StereoExamples
 pub mod Published
 pub mod ChannelExamples
+pub mod ChannelNumbers
+pub mod ImageCut
+pub mod Refusals
+pub mod Untouched

@@ -145,3 +145,10 @@ published : (readFrom fresh second 0 7 ≡ accepted 50 (record {
     × (readFrom (withIcc 1 (kept 1 five)) (0 ∷ []) 0 1 ≡ accepted 4 noContents (withIcc 1 (kept 1 five)))
 unfolding all
 published = (refl, refl)
+
+-- a restart is accepted out of step, and brings the state into step: demand 3 is not said of nothing
+pub accepted-out-of-step : (readFrom (lost fresh) (196 ∷ 8 ∷ 0 ∷ 0 ∷ 0 ∷ []) 0 5 .number ≡ 0)
+    × (readFrom (lost fresh) (196 ∷ 8 ∷ 0 ∷ 0 ∷ 0 ∷ []) 0 5 .bits ≡ 35)
+    × (readFrom (lost fresh) (196 ∷ 8 ∷ 0 ∷ 0 ∷ 0 ∷ []) 0 5 .state .instep ≡ true)
+unfolding all
+accepted-out-of-step = (refl, refl, refl)

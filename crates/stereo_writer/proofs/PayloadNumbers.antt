@@ -3,8 +3,8 @@
 use Rattle.stereo_indices.proofs.KindLaws.{of-table}
 use Prim.Native.Nat.{ℕ, _*_}
 use mathlib.Core.Path.{_≡_, refl, subst}
-use mathlib.Core.List.{List}
-use mathlib.Core.Bool.{Bool, true, false, _||_}
+use mathlib.Core.List.{List, [], _∷_}
+use mathlib.Core.Bool.{Bool, true, false}
 use lib.Dec.{eqb}
 use Rattle.bits.specs.Reader.{refused, Reader, give, _>>=_, pick, expecting}
 use Rattle.bits.specs.Field.{field, zeroBit}
@@ -12,6 +12,7 @@ use Rattle.bits.specs.Loop.{listed}
 use Rattle.bits.specs.Inside.{Fill, leftOver}
 use Rattle.bits.specs.Places.{here, refuseAt}
 use Rattle.bits.specs.Payload.{whole}
+use Rattle.bits.specs.Lists.{oneOf}
 use Rattle.bits.proofs.Bools.{true-false}
 use Rattle.bits.proofs.Numbered.{Numbered, give-numbered, here-numbered, refusing-numbered, field-numbered, zeroBit-numbered}
 use Rattle.bits.proofs.Numbered.{bind-numbered, expecting-numbered, pick-numbered, listed-numbered, leftOver-numbered, inside-numbered}
@@ -35,8 +36,11 @@ use Rattle.stereo.specs.declared.Header.{Header}
 use Rattle.stereo.specs.declared.Frame.{Frame}
 
 -- the numbers of a payload
-abbrev pub own : ℕ → Bool
-own n = eqb n 10 || eqb n 12 || eqb n 13 || eqb n 31 || eqb n 32 || eqb n 33 || eqb n 34
+abbrev pub payloadRefusals : List ℕ
+payloadRefusals = 10 ∷ 12 ∷ 13 ∷ 31 ∷ 32 ∷ 33 ∷ 34 ∷ []
+
+abbrev own : ℕ → Bool
+own = oneOf payloadRefusals
 
 -- the laws of Numbered, at these numbers
 give-own : {A : Type 0} (a : A) → Numbered own (give a)
@@ -130,7 +134,7 @@ pub payload-own : (st : State) → Numbered own (payload st)
 unfolding payload
 payload-own st = search (owns, header-own, frame-own, envelopes-own) depth 12
 
-pub whole-own : (st : State) (s : List ℕ) (n p : ℕ) → whole (payload st) s ≡ refused n p → own n ≡ true
+pub whole-own : (st : State) (s : List ℕ) (n p : ℕ) → whole (payload st) s ≡ refused n p → oneOf payloadRefusals n ≡ true
 whole-own st s n p e = whole-numbered own (payload st) refl (payload-own st) s n p e
 
 -- so no refusal has the number of a success

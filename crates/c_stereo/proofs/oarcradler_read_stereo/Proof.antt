@@ -63,7 +63,8 @@ returns-2 c =
     let a = tested .before .before .before .before .before .before .args in
     let r : read .read-bytes .result ≡ stereoReading (a .state .now) (a .buf .now) (a .start) (a .end) = read .read-bytes .ensures
     ∙ rw (read .before .before .state-at .ensures) in
-    rw r (payload-refused (a .state .now) (a .buf .now) (a .start) (a .end) (a .answer .now) (unrefused tested) (rw r at (c .before .if2 .taken)))
+    let refused = rw r at (c .before .if2 .taken) in
+    rw r (payload-refused (a .state .now) (a .buf .now) (a .start) (a .end) (a .answer .now) (unrefused tested) refused)
 
 put-state-requires : tie.Need-put-state-requires
 put-state-requires c κs = long (c .before .before .before .before .before .before .before)

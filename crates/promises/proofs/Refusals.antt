@@ -1,0 +1,190 @@
+-- Every number that comes back is 0 or a refusal of the table. A call's number is picked by tests, so that each choice is looked at.
+-- Assumes nothing.
+use Prim.Native.Nat.{ℕ, _*_}
+use mathlib.Core.Path.{_≡_, refl, subst}
+use mathlib.Core.List.{List}
+use mathlib.Core.Bool.{Bool, true, false, _&&_, _||_}
+use lib.Dec.{eqb, leb, ltb}
+use lib.ListN.{length}
+use Rattle.bits.specs.Reader.{Answer, got, refused, pick}
+use Rattle.bits.specs.Payload.{inBuffer, range, whole}
+use Rattle.bits.specs.Lists.{oneOf}
+use Rattle.bits.specs.Sampling.{knownIndex}
+use Rattle.bits.specs.Calls.{callRefusal}
+use Rattle.bits.proofs.Numbered.{one-of}
+use Rattle.channel.specs.Stream.{Stream, stream}
+use Rattle.channel.specs.Promise.{channelCallRefusal, channel, readingOf}
+use Rattle.stereo.specs.State.{sound}
+use Rattle.stereo.specs.Restart.{restart}
+use Rattle.stereo.specs.Payload.{payload}
+use Rattle.stereo.specs.declared.State.{State}
+use Rattle.stereo.specs.declared.Contents.{Contents}
+use Rattle.stereo_reader.specs.Reading.{from, taken, readBytes, readFrom, missing}
+use Rattle.stereo_reader.specs.Reading as reading
+use Rattle.stereo_reader.specs.declared.Reading.{Reading}
+use Rattle.stereo_reader.specs.declared.Report.{Report}
+use Rattle.stereo_writer.specs.Writing.{canWrite, written, writing}
+use Rattle.stereo_writer.specs.declared.Written.{Written}
+use Rattle.stereo_writer.specs.Spelling.{spelling}
+use Rattle.bits.specs.Pieces.{total}
+use Rattle.bits.specs.Packed.{bytesFor}
+use Rattle.stereo_writer.proofs.PayloadNumbers.{payloadRefusals, whole-own}
+use Rattle.image.specs.declared.Header.{Header}
+use Rattle.image.specs.declared.Part.{Part}
+use Rattle.image.specs.Image.{indexOf, soundImage, headerOf, partOf}
+use Rattle.image_outline.specs.Outline.{outlineOf}
+use Rattle.c_layout.specs.StateBytes.{stateAt, soundBytes}
+use Rattle.c_layout.specs.ContentsBytes.{contentsAt}
+use Rattle.c_channel.specs.ReadChannel.{channelCall}
+use Rattle.c_stereo.specs.StateCalls.{freshNumber, missingNumber}
+use Rattle.c_stereo.specs.ReadStereo.{stereoCallRefusal, stereoReading, stereoNumber}
+use Rattle.c_writer.specs.WriteStereo.{writeCallRefusal, stereoWriting, writeNumber}
+use Rattle.c_image.specs.ImageCalls.{imageNumber, partNumber}
+use Rattle.promises.specs.Refusals.{streamRefusals, isRefusal, isAnswered}
+use Rattle.promises.proofs.ChannelNumbers.{stream-numbers}
+
+-- a stream's own numbers are of the table
+stream-told : (n : ℕ) → oneOf streamRefusals n ≡ true → isRefusal n ≡ true
+stream-told =
+    one-of isRefusal streamRefusals
+    (refl, (refl, (refl, (refl, (refl, (refl, (refl, (refl, (refl, (refl, tt))))))))))
+
+-- demand 1, of a channel stream: a refusal is a number of the table, and so it is not 0
+pub channel-refusals : (buf : List ℕ) (start end index lines factors books n p : ℕ)
+    → channel buf start end index lines factors books ≡ refused n p → isRefusal n ≡ true
+unfolding channel channelCallRefusal
+channel-refusals buf start end index lines factors books n p =
+    by-tests (inBuffer start end (length buf)) (leb 1024 lines && leb 120 factors && leb 120 books) (knownIndex index)
+  where
+    by-tests : (a b c : Bool)
+        → pick (eqb (pick a (pick b (pick c 0 3) 2) 1) 0) (whole (stream index) (range buf start end))
+        (refused (pick a (pick b (pick c 0 3) 2) 1) 0) ≡ refused n p → isRefusal n ≡ true
+    by-tests true true true e = stream-told n (stream-numbers index (range buf start end) n p e)
+    by-tests true true false e = let z : 3 ≡ n = cc in subst (λ (k : ℕ). isRefusal k ≡ true) z refl
+    by-tests true false c e = let z : 2 ≡ n = cc in subst (λ (k : ℕ). isRefusal k ≡ true) z refl
+    by-tests false b c e = let z : 1 ≡ n = cc in subst (λ (k : ℕ). isRefusal k ≡ true) z refl
+
+-- a number that tests pick is answered where each of those that it is picked of is
+picked : {A : Type 0} (number : A → ℕ) (b : Bool) (x y : A) → isAnswered (number x) ≡ true → isAnswered (number y) ≡ true
+    → isAnswered (number (pick b x y)) ≡ true
+picked number true x y p q = p
+picked number false x y p q = q
+
+abbrev self : ℕ → ℕ
+self n = n
+
+refused-answered : (n : ℕ) → isRefusal n ≡ true → isAnswered n ≡ true
+refused-answered n e = by-zero (eqb n 0)
+  where
+    by-zero : (b : Bool) → (b || isRefusal n) ≡ true
+    by-zero true = refl
+    by-zero false = e
+
+-- a stereo payload's own numbers are of the table
+payload-told : (n : ℕ) → oneOf payloadRefusals n ≡ true → isRefusal n ≡ true
+payload-told = one-of isRefusal payloadRefusals (refl, (refl, (refl, (refl, (refl, (refl, (refl, tt)))))))
+
+-- of a stereo payload
+module _ (st : State) where
+  bytes-answered : (s : List ℕ) → isAnswered (readBytes st s .number) ≡ true
+  unfolding readBytes taken
+  bytes-answered s = by-answer (whole (payload (from st)) s) refl
+    where
+      by-answer : (x : Answer Contents) → whole (payload (from st)) s ≡ x → isAnswered (reading.readingOf st x .number) ≡ true
+      by-answer (got c bits) e = picked (λ (r : Reading). r .number) (st .instep || restart c) _ _ refl refl
+      by-answer (refused n p) e = refused-answered n (payload-told n (whole-own (from st) s n p e))
+
+  pub stereo-answered : (b : List ℕ) (start end : ℕ) → isAnswered (readFrom st b start end .number) ≡ true
+  unfolding readFrom
+  stereo-answered b start end =
+      picked (λ (r : Reading). r .number) (inBuffer start end (length b)) _ _
+      (picked (λ (r : Reading). r .number) (sound st) _ _ (bytes-answered (range b start end)) refl) refl
+
+  pub report-answered : isAnswered (missing st .number) ≡ true
+  unfolding missing
+  report-answered = picked (λ (r : Report). r .number) (sound st) _ _ refl refl
+
+  room-answered : (c : Contents) (room : ℕ) → isAnswered (written st c room .number) ≡ true
+  room-answered c room = picked (λ (w : Written). w .number) (leb (bytesFor (total (spelling (from st) c))) room) _ _ refl refl
+
+  pub writing-answered : (c : Contents) (room : ℕ) → isAnswered (writing st c room .number) ≡ true
+  unfolding writing
+  writing-answered c room =
+      picked (λ (w : Written). w .number) (sound st) _ _
+      (picked (λ (w : Written). w .number) (canWrite (from st) c) _ _
+      (picked (λ (w : Written). w .number) (st .instep || restart c) _ _ (room-answered c room) refl) refl)
+      refl
+
+-- of an image
+pub header-answered : (s : List ℕ) → isAnswered (headerOf s .number) ≡ true
+unfolding headerOf
+header-answered s =
+    picked (λ (h : Header). h .number) (soundImage s) _ _ (picked (λ (h : Header). h .number) (knownIndex (indexOf s)) _ _ refl refl)
+    refl
+
+pub part-answered : (s : List ℕ) (k : ℕ) → isAnswered (partOf s k .number) ≡ true
+unfolding partOf
+part-answered s k =
+    picked (λ (p : Part). p .number) (eqb (headerOf s .number) 0) _ _
+    (picked (λ (p : Part). p .number) (ltb k (headerOf s .count)) _ _ refl refl) (header-answered s)
+
+pub outline-answered : (s : List ℕ) (room : ℕ) → isAnswered (outlineOf s room .number) ≡ true
+unfolding outlineOf
+outline-answered s room =
+    let h = header-answered s in
+    picked (λ (h : Header). h .number) (eqb (headerOf s .number) 0) _ _
+    (picked (λ (h : Header). h .number) (leb (4 * headerOf s .count) room) _ _ h refl) h
+
+-- of the functions for C
+call-answered : (size start end need room : ℕ) → isAnswered (callRefusal size start end need room) ≡ true
+call-answered size start end need room =
+    picked self (inBuffer start end size) _ _ (picked self (leb need room) _ _ refl refl) refl
+
+answer-number : (x : Answer Stream) → ((n p : ℕ) → x ≡ refused n p → isRefusal n ≡ true) → isAnswered (readingOf x .number) ≡ true
+answer-number (got x bits) f = refl
+answer-number (refused n p) f = refused-answered n (f n p refl)
+
+module _ (buf : List ℕ) (start end : ℕ) where
+  pub channel-answered : (index lines factors books room : ℕ)
+      → isAnswered (readingOf (channelCall buf start end index lines factors books room) .number) ≡ true
+  unfolding channelCall
+  channel-answered index lines factors books room =
+      picked (λ (x : Answer Stream). readingOf x .number) (eqb (callRefusal (length buf) start end 17 room) 0) _ _
+      (answer-number (channel buf start end index lines factors books) (channel-refusals buf start end index lines factors books))
+      (call-answered (length buf) start end 17 room)
+
+  judged-answered : (s : List ℕ) (room : ℕ) → isAnswered (stereoCallRefusal s (length buf) start end room) ≡ true
+  unfolding stereoCallRefusal
+  judged-answered s room =
+      let call = callRefusal (length buf) start end 582 room in
+      picked self (eqb call 0) (pick (soundBytes s) 0 4) call (picked self (soundBytes s) 0 4 refl refl)
+      (call-answered (length buf) start end 582 room)
+
+  pub stereo-call-answered : (s : List ℕ) (room : ℕ) → isAnswered (stereoNumber s buf start end room) ≡ true
+  unfolding stereoNumber
+  stereo-call-answered s room =
+      let call = stereoCallRefusal s (length buf) start end room in
+      picked self (eqb call 0) (stereoReading s buf start end .number) call (bytes-answered (stateAt s) (range buf start end))
+      (judged-answered s room)
+
+pub fresh-answered : (s : List ℕ) → isAnswered (freshNumber s) ≡ true
+fresh-answered s = picked self (leb 146 (length s)) _ _ refl refl
+
+pub missing-answered : (s : List ℕ) → isAnswered (missingNumber s) ≡ true
+missing-answered s = picked self (soundBytes s) _ _ refl refl
+
+pub write-answered : (s contents : List ℕ) (room : ℕ) → isAnswered (writeNumber s contents room) ≡ true
+unfolding writeNumber
+write-answered s contents room =
+    let call = writeCallRefusal s (length contents) in
+    let few = picked self (leb 582 (length contents)) 0 40 refl refl in
+    picked self (eqb call 0) (stereoWriting s contents room .number) call (writing-answered (stateAt s) (contentsAt contents) room)
+    (picked self (soundBytes s) (pick (leb 582 (length contents)) 0 40) 4 few refl)
+
+pub image-answered : (image : List ℕ) (room : ℕ) → isAnswered (imageNumber image room) ≡ true
+unfolding imageNumber
+image-answered image room = picked self (leb 8 room) _ _ (header-answered image) refl
+
+pub find-answered : (image : List ℕ) (k room : ℕ) → isAnswered (partNumber image k room) ≡ true
+unfolding partNumber
+find-answered image k room = picked self (leb 8 room) _ _ (part-answered image k) refl
