@@ -28,16 +28,23 @@ fn last_place(src: &[u8]) -> usize
     8 * src.len()
 }
 
+// A refusal: nothing is taken, and the place stays.
+fn refused(number: u8, at: usize) -> Took
+    ensures { λ r. ⌜ r ≡ record { number = number; value = 0; next = at } ⌝ }
+{
+    Took {
+        number,
+        value: 0,
+        next: at,
+    }
+}
+
 // The field of n bits at a place of a payload.
 pub fn took_at(src: &[u8], at: usize, n: usize) -> Took
     ensures { λ r. ⌜ r ≡ tookAt (now (src .entry)) at n ⌝ }
 {
     if 20 < n {
-        return Took {
-            number: 10,
-            value: 0,
-            next: at,
-        };
+        return refused(10, at);
     }
     let f = bits::read_field(src, at, last_place(src), n);
     match f {
@@ -46,11 +53,7 @@ pub fn took_at(src: &[u8], at: usize, n: usize) -> Took
             value,
             next,
         },
-        Field::Refused(number, _) => Took {
-            number,
-            value: 0,
-            next: at,
-        },
+        Field::Refused(number, _) => refused(number, at),
     }
 }
 

@@ -1,4 +1,5 @@
 -- Above 20 bits it refuses at once; else the field's answer is taken apart.
+use mathlib.Core.Path.{_∙_}
 use native.Mathlib.Omega.{arith}
 use borrow.Author.Tests.{le-leb, lt-leb}
 use Rattle.bits.proofs.Taken.{answered}
@@ -9,7 +10,7 @@ use Rattle.bit_reader.proofs.took_at.Tie as tie
 
 returns : tie.Need-returns
 unfolding tookAt
-returns c = rw (lt-leb _ _ (c .if1 .taken))
+returns c = c .refused .ensures ∙ rw (lt-leb _ _ (c .before .if1 .taken))
 
 returns-2 : tie.Need-returns-2
 unfolding tookAt
@@ -27,18 +28,19 @@ returns-2 c =
 returns-3 : tie.Need-returns-3
 unfolding tookAt
 returns-3 c =
-    let at-read-field = c .before .before .before in
+    let at-read-field = c .before .before .before .before in
     let at-last-place = at-read-field .before in
     let entry = at-last-place .before .before .before in
     let x = entry .args in
-    rw (
+    c .refused2 .ensures
+    ∙ rw (
       le-leb (x .n) 20 (omega arith),
       ← (at-last-place .last-place .ensures .0),
-      answered (at-read-field .read-field .ensures) (c .before .f2 .given .1),
+      answered (at-read-field .read-field .ensures) (c .before .before .f2 .given .1),
     )
 
 pub took-at-spec : {M : Type 1} → statement M
 took-at-spec =
     tie.close
-    (tie.spec returns (λ c κs. search needs) (λ c κs. search needs) (λ c. search needs) (λ c. search needs)
-    returns-2 returns-3)
+    (tie.spec (λ c κs. search needs) returns (λ c κs. search needs) (λ c κs. search needs) (λ c. search needs)
+    (λ c. search needs) (λ c κs. search needs) returns-2 returns-3)
