@@ -1,12 +1,15 @@
 -- Every number that comes back is 0 or a refusal of the table. A call's number is picked by tests, so that each choice is looked at.
 -- Assumes nothing.
-use Prim.Native.Nat.{ℕ, _*_}
+use Prim.Native.Nat.{ℕ, _+_, _*_}
 use mathlib.Core.Path.{_≡_, refl, subst}
 use mathlib.Core.List.{List}
 use mathlib.Core.Bool.{Bool, true, false, _&&_, _||_}
 use lib.Dec.{eqb, leb, ltb}
 use lib.ListN.{length}
 use Rattle.bits.specs.Reader.{Answer, got, refused, pick}
+use Rattle.bits.specs.Bits.{bitsFrom}
+use Rattle.bits.specs.Field.{field}
+use Rattle.bit_reader.specs.Took.{lastPlace, tookOf, tookAt}
 use Rattle.bits.specs.Payload.{inBuffer, range, whole}
 use Rattle.bits.specs.Lists.{oneOf}
 use Rattle.bits.specs.Sampling.{knownIndex}
@@ -49,6 +52,10 @@ stream-told =
     one-of isRefusal streamRefusals
     (refl, (refl, (refl, (refl, (refl, (refl, (refl, (refl, (refl, (refl, tt))))))))))
 
+-- no refusal has the number of a success
+pub never-0 : isRefusal 0 ≡ false
+never-0 = refl
+
 -- demand 1, of a channel stream: a refusal is a number of the table, and so it is not 0
 pub channel-refusals : (buf : List ℕ) (start end index lines factors books n p : ℕ)
     → channel buf start end index lines factors books ≡ refused n p → isRefusal n ≡ true
@@ -86,7 +93,7 @@ payload-told = one-of isRefusal payloadRefusals (refl, (refl, (refl, (refl, (ref
 
 -- of a stereo payload
 module _ (st : State) where
-  bytes-answered : (s : List ℕ) → isAnswered (readBytes st s .number) ≡ true
+  pub bytes-answered : (s : List ℕ) → isAnswered (readBytes st s .number) ≡ true
   unfolding readBytes taken
   bytes-answered s = by-answer (whole (payload (from st)) s) refl
     where
@@ -114,6 +121,17 @@ module _ (st : State) where
       (picked (λ (w : Written). w .number) (canWrite (from st) c) _ _
       (picked (λ (w : Written). w .number) (st .instep || restart c) _ _ (room-answered c room) refl) refl)
       refl
+
+-- of the bit reader
+pub take-answered : (s : List ℕ) (at n : ℕ) → isAnswered (tookAt s at n .number) ≡ true
+unfolding tookAt field
+take-answered s at n = by-tests (leb n 20) (leb (at + n) (lastPlace s))
+  where
+    by-tests : (a b : Bool)
+        → isAnswered (tookOf (pick a (pick b (got (bitsFrom s at n) (at + n)) (refused 10 at)) (refused 10 at)) at .number) ≡ true
+    by-tests true true = refl
+    by-tests true false = refl
+    by-tests false b = refl
 
 -- of an image
 pub header-answered : (s : List ℕ) → isAnswered (headerOf s .number) ≡ true

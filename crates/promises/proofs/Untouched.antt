@@ -1,6 +1,6 @@
 -- A refusal changes no lent buffer, and in the stereo state at most the mark: 1, 2 and 4 leave it, 10 to 35 set it out of step.
 -- Assumes nothing.
-use Prim.Native.Nat.{ℕ}
+use Prim.Native.Nat.{ℕ, _+_}
 use mathlib.Core.Path.{_≡_, refl}
 use mathlib.Core.Logic.{_≢_}
 use mathlib.Core.List.{List}
@@ -11,6 +11,10 @@ use lib.ListN.{length}
 use borrow.Author.Tests.{ne-eqb}
 use Rattle.bits.specs.Reader.{Answer, got, refused, pick}
 use Rattle.bits.specs.Calls.{answered}
+use Rattle.bits.specs.Bits.{bitsFrom}
+use Rattle.bits.specs.Field.{field}
+use Rattle.bit_reader.specs.Took.{lastPlace, tookOf, tookAt}
+use Rattle.bit_reader.specs.declared.Took.{Took}
 use Rattle.bits.specs.Payload.{inBuffer, range, whole}
 use Rattle.channel.specs.Stream.{Stream}
 use Rattle.channel.specs.Promise.{readingOf, linesAfter, factorsAfter, booksAfter}
@@ -51,6 +55,20 @@ pub channel-untouched : (x : Answer Stream) → readingOf x .number ≢ 0 → (l
     × (channelAnswerAfter x answer ≡ answer)
 channel-untouched (got x bits) h lines factors books answer = absurd (h refl)
 channel-untouched (refused n p) h lines factors books answer = (refl, refl, refl, unanswered n h _ answer)
+
+-- of the bit reader: a refusal takes nothing, and the place stays
+module _ (s : List ℕ) (at n : ℕ) where
+  abbrev took : Bool → Bool → Took
+  took a b = tookOf (pick a (pick b (got (bitsFrom s at n) (at + n)) (refused 10 at)) (refused 10 at)) at
+
+  took-refused : (a b : Bool) → took a b .number ≢ 0 → took a b ≡ record { number = 10; value = 0; next = at }
+  took-refused true true h = absurd (h refl)
+  took-refused true false h = refl
+  took-refused false b h = refl
+
+  pub take-untouched : tookAt s at n .number ≢ 0 → tookAt s at n ≡ record { number = 10; value = 0; next = at }
+  unfolding tookAt field
+  take-untouched = took-refused (leb n 20) (leb (at + n) (lastPlace s))
 
 -- a payload's own numbers are 10 and above
 late : (n : ℕ) → oneOf payloadRefusals n ≡ true → leb 10 n ≡ true
