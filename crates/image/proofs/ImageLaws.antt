@@ -16,6 +16,7 @@ use Rattle.bits.specs.Sampling.{knownIndex}
 
 pub record Sound (s : List ℕ) : Type 0 where
   pub small : length s ≤ 65535
+  pub even : countOf s % 2 ≡ 0
   pub pairs : 2 * countOf s + 6 ≤ length s
   pub few : countOf s ≤ 1024
   pub first : offsetOf s 0 ≡ 2 * countOf s + 6
@@ -41,12 +42,21 @@ sound-facts s e =
     let size = and-both a b (even .0) in
     record {
       small = leb-true _ _ (size .0);
+      even = eqb-true _ _ (even .1);
       pairs = leb-true _ _ (pairs .1);
       few = leb-true _ _ (few .1);
       first = eqb-true _ _ (first .1);
       order = order .1;
       last = eqb-true _ _ (last .1);
     }
+
+-- an image that cannot have them all is not sound
+pub unsound : (s : List ℕ) → (Sound s → ⊥) → false ≡ soundImage s
+unsound s n = go (soundImage s) refl
+  where
+    go : (b : Bool) → soundImage s ≡ b → false ≡ b
+    go true e = absurd (n (sound-facts s e))
+    go false e = refl
 
 -- of offsets that rise, a later one is not before an earlier
 rising-le : (s : List ℕ) (k m : ℕ) → rising s k m ≡ true → (j : ℕ) → j ≤ m → offsetOf s k ≤ offsetOf s (k + j)

@@ -1,124 +1,72 @@
--- `tag::is_sound` meets its contract: each `return` shows the tests of `soundImage` up to the one that failed.
--- Assumes nothing.
-use Prim.Native.Nat.{_+_, _*_, _%_}
+-- A test that fails denies a fact that sound images have; past the first offset's test the order and the last offset decide.
+use Prim.Native.Nat.{ℕ, _+_, _*_, _%_}
 use native.Mathlib.Omega.{arith}
-use borrow.Author.Tests.{le-leb, lt-leb, eq-eqb, ne-eqb, not-true, not-false}
+use mathlib.Core.Path.{_≡_}
+use mathlib.Core.Bool.{_&&_}
+use mathlib.Core.List.{List}
+use borrow.Author.Tests.{le-leb, eq-eqb, not-true, not-false}
+use lib.Dec.{eqb}
 use lib.ListN.{length}
-use Rattle.image.specs.Image.{soundImage}
+use Rattle.image.specs.Image.{offsetOf, rising, soundImage}
+use Rattle.image.proofs.ImageLaws.{Sound, unsound}
 use borrow.Author.Needs.{needs}
 use Rattle.image.proofs.is_sound.Statement.{statement}
 use Rattle.image.proofs.is_sound.Tie as tie
 
 returns : tie.Need-returns
-unfolding soundImage
-returns c = rw (lt-leb _ _ (c .if1 .taken))
+returns c = unsound _ (λ (f : Sound _). omega arith)
 
 returns-2 : tie.Need-returns-2
-unfolding soundImage
-returns-2 c =
-    let s = c .before .before .before .args .image .now in
-    rw (le-leb (length s) 65535 (omega arith), lt-leb _ _ (c .if2 .taken))
+returns-2 c = unsound _ (λ (f : Sound _). omega arith)
 
 returns-3 : tie.Need-returns-3
-unfolding soundImage
-returns-3 c =
-    let s = c .before .before .before .before .before .args .image .now in
-    let n = c .before .pair-at in
-    rw (← (n .ensures .0), le-leb (length s) 65535 (omega arith), le-leb 6 (length s) (omega arith), ne-eqb _ _ (c .if3 .taken))
+returns-3 c = unsound _ (λ (f : Sound _). omega arith)
 
 returns-4 : tie.Need-returns-4
-unfolding soundImage
-returns-4 c =
-    let entry = c .before .before .before .before .before .before in
-    let s = entry .args .image .now in
-    let n = c .before .before .pair-at in
-    rw (
-      ← (n .ensures .0),
-      le-leb (length s) 65535 (omega arith),
-      le-leb 6 (length s) (omega arith),
-      eq-eqb (n .result % 2) 0 (omega arith),
-      lt-leb _ _ (c .if4 .taken),
-    )
+returns-4 c = unsound _ (λ (f : Sound _). omega arith)
 
 returns-5 : tie.Need-returns-5
-unfolding soundImage
-returns-5 c =
-    let at-pair-at = c .before .before .before in
-    let entry = at-pair-at .before .before .before .before in
-    let s = entry .args .image .now in
-    let n = at-pair-at .pair-at in
-    rw (
-      ← (n .ensures .0),
-      le-leb (length s) 65535 (omega arith),
-      le-leb 6 (length s) (omega arith),
-      eq-eqb (n .result % 2) 0 (omega arith),
-      le-leb (n .result) 1024 (omega arith),
-      lt-leb _ _ (c .if5 .taken),
-    )
+returns-5 c = unsound _ (λ (f : Sound _). omega arith)
 
 returns-6 : tie.Need-returns-6
+returns-6 c = unsound _ (λ (f : Sound _). omega arith)
+
+abbrev counted : tie.Else6 → tie.After-pair-at
+counted c = c .before .before .before .before .before
+
+abbrev bytes : tie.Else6 → List ℕ
+bytes c = counted c .before .before .before .before .args .image .now
+
+abbrev count : tie.Else6 → ℕ
+count c = counted c .pair-at .result
+
+-- past the first offset's test, whether the offsets rise and what the last one is decide
+others : (c : tie.Else6)
+    → soundImage (bytes c) ≡ (rising (bytes c) 0 (count c) && eqb (offsetOf (bytes c) (count c)) (length (bytes c)))
 unfolding soundImage
-returns-6 c =
-    let at-pair-at = c .before .before .before .before .before in
-    let entry = at-pair-at .before .before .before .before in
-    let s = entry .args .image .now in
-    let n = at-pair-at .pair-at in
+others c =
+    let s = bytes c in
     let first = c .before .pair-at2 in
     rw (
-      ← (n .ensures .0),
+      ← (counted c .pair-at .ensures .0),
       le-leb (length s) 65535 (omega arith),
       le-leb 6 (length s) (omega arith),
-      eq-eqb (n .result % 2) 0 (omega arith),
-      le-leb (n .result) 1024 (omega arith),
-      le-leb (2 * n .result + 6) (length s) (omega arith),
+      eq-eqb (count c % 2) 0 (omega arith),
+      le-leb (count c) 1024 (omega arith),
+      le-leb (2 * count c + 6) (length s) (omega arith),
       ← (first .ensures .0),
-      ne-eqb _ _ (c .if6 .taken),
+      eq-eqb (first .result) (2 * count c + 6) (omega arith),
     )
 
 returns-7 : tie.Need-returns-7
-unfolding soundImage
 returns-7 c =
-    let at-pair-at2 = c .before .before .before in
-    let at-pair-at = at-pair-at2 .before .before .before .before in
-    let entry = at-pair-at .before .before .before .before in
-    let s = entry .args .image .now in
-    let n = at-pair-at .pair-at in
-    let first = at-pair-at2 .pair-at2 in
-    rw (
-      ← (n .ensures .0),
-      le-leb (length s) 65535 (omega arith),
-      le-leb 6 (length s) (omega arith),
-      eq-eqb (n .result % 2) 0 (omega arith),
-      le-leb (n .result) 1024 (omega arith),
-      le-leb (2 * n .result + 6) (length s) (omega arith),
-      ← (first .ensures .0),
-      eq-eqb (first .result) (2 * n .result + 6) (omega arith),
-      ← (c .before .is-rising .ensures),
-      not-true (c .before .is-rising .result) (c .if7 .taken),
-    )
+    rw (others (c .before .before), ← (c .before .is-rising .ensures), not-true (c .before .is-rising .result) (c .if7 .taken))
 
 returns-8 : tie.Need-returns-8
-unfolding soundImage
 returns-8 c =
-    let at-pair-at2 = c .before .before .before .before in
-    let at-pair-at = at-pair-at2 .before .before .before .before in
-    let entry = at-pair-at .before .before .before .before in
-    let s = entry .args .image .now in
-    let n = at-pair-at .pair-at in
-    let first = at-pair-at2 .pair-at2 in
-    rw (
-      ← (n .ensures .0),
-      le-leb (length s) 65535 (omega arith),
-      le-leb 6 (length s) (omega arith),
-      eq-eqb (n .result % 2) 0 (omega arith),
-      le-leb (n .result) 1024 (omega arith),
-      le-leb (2 * n .result + 6) (length s) (omega arith),
-      ← (first .ensures .0),
-      eq-eqb (first .result) (2 * n .result + 6) (omega arith),
-      ← (c .before .before .is-rising .ensures),
-      not-false (c .before .before .is-rising .result) (c .before .if7 .left),
-      ← (c .pair-at3 .ensures .0),
-    )
+    let rises = c .before .before .is-rising in
+    let rise = not-false (rises .result) (c .before .if7 .left) in
+    rw (others (c .before .before .before), ← (rises .ensures), rise, ← (c .pair-at3 .ensures .0))
 
 pub is-sound-spec : {M : Type 1} → statement M
 is-sound-spec =
