@@ -89,13 +89,17 @@ fits-left : (c l : ℕ) (s : List ℕ) (at end : ℕ) → fits c l s at end ≡ 
 unfolding fits
 fits-left c l s at end e = leb-true _ _ (and-both (leb l (end - at)) (eqb (bitsFrom s at l) c) e .0)
 
--- one turn of the code's loop: the window is of the bits at the place, and the word at i was judged
-module _ (codes lens s : List ℕ) (at end i : ℕ) (short : Bool) (hc : i < length codes) (hl : i < length lens)
-    (narrow : getD lens i 0 ≤ 20) {m v : ℕ} (em : m ≡ min 20 (end - at)) (ev : v ≡ bitsFrom s at m)
-    {r : Comparison} (er : r ≡ compared v m (getD codes i 0) (getD lens i 0)) where
-  told : r ≡ tells (fits (getD codes i 0) (getD lens i 0) s at end) (cutOff (getD codes i 0) (getD lens i 0) s at end)
-  told = er ∙ simp (ev, em) (compared-is s at end (getD codes i 0) (getD lens i 0) narrow)
+-- a window of the bits at the place tells of a word what all of them do
+abbrev pub Told : Comparison → (s : List ℕ) (at end c l : ℕ) → Type 0
+Told r s at end c l = r ≡ tells (fits c l s at end) (cutOff c l s at end)
 
+pub judged : (s : List ℕ) (at end c l : ℕ) → l ≤ 20 → {m v : ℕ} → m ≡ min 20 (end - at) → v ≡ bitsFrom s at m → {r : Comparison}
+    → r ≡ compared v m c l → Told r s at end c l
+judged s at end c l narrow em ev er = er ∙ simp (ev, em) (compared-is s at end c l narrow)
+
+-- one turn of the code's loop, in which the word at i was judged
+module _ (codes lens s : List ℕ) (at end i : ℕ) (short : Bool) (hc : i < length codes) (hl : i < length lens)
+    {r : Comparison} (told : Told r s at end (getD codes i 0) (getD lens i 0)) where
   pub turn-found : r ≡ Fits → (got i (at + getD lens i 0) ≡ scan (drop i codes) (drop i lens) i short s at end) × (getD lens i 0 ≤ end - at)
   turn-found e =
       let fit = fits (getD codes i 0) (getD lens i 0) s at end in
