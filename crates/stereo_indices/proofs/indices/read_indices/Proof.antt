@@ -12,12 +12,12 @@ use mir.Syntax.{w8}
 use mir.Val.{SFits, toZ, ofZ}
 use mir.ValLaws.{toZ-ofZ}
 use denote.Ref.{now}
-use Rattle.bits.specs.Reader.{Answer, got, pick}
+use Rattle.bits.specs.Reader.{Answer, Reader, got, pick}
 use Rattle.bits.specs.Loop.{counted, more}
 use Rattle.bits.proofs.LoopLaws.{counted-start, counted-more, counted-stop, counted-done, more-got, more-refused}
 use Rattle.bits.proofs.Signed.{fits, thru}
 use Rattle.stereo_indices.specs.Record.{zeros}
-use Rattle.stereo_indices.specs.Kind.{inRange}
+use Rattle.stereo_indices.specs.Kind.{bands, inRange}
 use Rattle.stereo_indices.specs.InnerAnswers.{indexAnswer}
 use Rattle.stereo_indices.specs.Indices.{reference, indexFrom, index}
 use Rattle.stereo_indices.proofs.KindLaws.{in-range-abs, pick-fits}
@@ -58,15 +58,34 @@ loop-holds c =
 abbrev start : tie.At-loop Inv-loop μ-loop → tie.Start Inv-loop μ-loop
 start c = c .before .before .before .before .before .before
 
+-- the indices so far, and the one that follows them
+abbrev done : tie.At-loop Inv-loop μ-loop → List ℤ
+done c = take (c .loop .i) (c .loop .indices)
+
+abbrev next : tie.At-loop Inv-loop μ-loop → List ℤ → Reader ℤ
+next c = let a = start c .args in index (a .kind) (a .mode) (a .time) (a .t7)
+
+-- the loop counts the definition's bands
+so-far : (c : tie.At-loop Inv-loop μ-loop)
+    → let a = start c .args in
+    counted 0 (bands (a .kind) (a .mode)) (more (next c)) [] (a .s .now) (a .at) (a .end)
+    ≡ counted (c .loop .i) (c .before .before .bands .result - c .loop .i) (more (next c)) (done c) (a .s .now) (c .loop .place) (a .end)
+so-far c =
+    let a = start c .args in
+    ap (λ (n : ℕ). counted 0 n (more (next c)) [] (a .s .now) (a .at) (a .end)) (sym (c .before .before .bands .ensures .0))
+    ∙ c .loop .inv .so-far
+
 -- where an index was read
-abbrev turn : tie.After-read-index Inv-loop μ-loop → tie.At-loop Inv-loop μ-loop
-turn c = c .before .before .before .before
+abbrev turn : tie.After-read-index Inv-loop μ-loop → tie.In-loop Inv-loop μ-loop
+turn c = c .before .before .before
+
+abbrev head : tie.After-read-index Inv-loop μ-loop → tie.At-loop Inv-loop μ-loop
+head c = turn c .before
 
 -- the code adds to what the definition adds to
 from-is : (c : tie.After-chosen Inv-loop μ-loop)
-    → let a = start (c .before .before .before) .args in
-    let l = c .before .before .before .loop in
-    toZ w8 (ofZ w8 (c .chosen .result)) ≡ reference (a .time) (a .t7) (take (l .i) (l .indices))
+    → let l = c .before .before .before in
+    toZ w8 (ofZ w8 (c .chosen .result)) ≡ reference (start l .args .time) (start l .args .t7) (done l)
 unfolding reference
 from-is c =
     let at-loop = c .before .before .before in
@@ -83,25 +102,20 @@ from-is c =
 
 -- and reads what the definition reads
 step-is : (c : tie.After-read-index Inv-loop μ-loop)
-    → let a = start (turn c) .args in
-    let l = turn c .loop in
-    index (a .kind) (a .mode) (a .time) (a .t7) (take (l .i) (l .indices)) (a .s .now) (l .place) (a .end)
-    ≡ indexAnswer (c .read-index .result)
+    → let a = start (head c) .args in
+    next (head c) (done (head c)) (a .s .now) (head c .loop .place) (a .end) ≡ indexAnswer (c .read-index .result)
 unfolding index
 step-is c =
-    let a = start (turn c) .args in
-    let l = turn c .loop in
-    ap (λ (z : ℤ). indexFrom (a .kind) (a .mode) (a .time) z (a .s .now) (l .place) (a .end)) (sym (from-is (c .before)))
+    let a = start (head c) .args in
+    ap (λ (z : ℤ). indexFrom (a .kind) (a .mode) (a .time) z (a .s .now) (head c .loop .place) (a .end)) (sym (from-is (c .before)))
     ∙ sym (c .read-index .ensures)
 
 -- an index that was read is in its range
-step-ranged : (c : tie.After-read-index Inv-loop μ-loop) (x : ℤ) (next : ℕ)
-    → let a = start (turn c) .args in
-    let l = turn c .loop in
-    index (a .kind) (a .mode) (a .time) (a .t7) (take (l .i) (l .indices)) (a .s .now) (l .place) (a .end) ≡ got x next
-    → inRange (a .kind) (a .mode) x ≡ true
+step-ranged : (c : tie.After-read-index Inv-loop μ-loop) (x : ℤ) (place : ℕ)
+    → let a = start (head c) .args in
+    next (head c) (done (head c)) (a .s .now) (head c .loop .place) (a .end) ≡ got x place → inRange (a .kind) (a .mode) x ≡ true
 unfolding index
-step-ranged c x next q = index-ranged _ _ _ _ _ _ _ x next q
+step-ranged c x place q = index-ranged _ _ _ _ _ _ _ x place q
 
 read-index-requires : tie.Need-read-index-requires Inv-loop μ-loop
 read-index-requires c κs = start (c .before .before .before) .pre
@@ -109,23 +123,17 @@ read-index-requires c κs = start (c .before .before .before) .pre
 returns : tie.Need-returns Inv-loop μ-loop
 returns c =
     let p = c .before .before .before in
-    let at-loop = p .before .before .before .before in
-    let l = at-loop .loop in
-    let a = at-loop .before .before .before .before .before .before .args in
-    let f = index (a .kind) (a .mode) (a .time) (a .t7) in
-    let n = at-loop .before .before .bands .ensures .0 in
+    let l = head p .loop in
     let q = step-is p ∙ ap indexAnswer (c .before .number .given .1) in
-    let e = l .inv .so-far ∙ counted-stop (more f) (l .i) _ (take (l .i) (l .indices)) (a .s .now) (l .place) (a .end) _ _
-    (p .before .before .before .loop-test .taken)
-    (more-refused f (l .i) (take (l .i) (l .indices)) (a .s .now) (l .place) (a .end) _ _ q) in
-    indices-refused (a .kind) (a .mode) (a .time) (a .t7) (a .s .now) (a .at) (a .end) _ _ (rw n at e)
+    indices-refused _ _ _ _ _ _ _ _ _
+    (so-far (head p) ∙ counted-stop (more (next (head p))) (l .i) _ (done (head p)) _ (l .place) _ _ _ (turn p .loop-test .taken)
+    (more-refused (next (head p)) (l .i) (done (head p)) _ (l .place) _ _ _ q))
 
 loop-again : tie.Need-loop-again Inv-loop μ-loop
 loop-again c =
     let p = c .before .before .before in
-    let l = turn p .loop in
-    let a = start (turn p) .args in
-    let f = index (a .kind) (a .mode) (a .time) (a .t7) in
+    let l = head p .loop in
+    let a = start (head p) .args in
     let x = c .before .x .given .0 .0 in
     let q = step-is p ∙ ap indexAnswer (c .before .x .given .1) in
     let small : natAbs x ≤ 15 = in-range-abs (a .kind) (a .mode) x (step-ranged p x _ q) in
@@ -136,24 +144,18 @@ loop-again c =
       filled = filled-set 34 (pos 0) (l .i) (l .indices) x (l .inv .filled);
       small = small;
       before = sym (last-set 34 (pos 0) (l .i) (l .indices) x (pos 0) h (l .inv .filled));
-      so-far = l .inv .so-far ∙ counted-more (more f) (l .i) _ (take (l .i) (l .indices)) _ (a .s .now) (l .place) (a .end) _
-          (p .before .before .before .loop-test .taken)
-          (more-got f (l .i) (take (l .i) (l .indices)) x (a .s .now) (l .place) (a .end) _ q
+      so-far = l .inv .so-far ∙ counted-more (more (next (head p))) (l .i) _ (done (head p)) _ _ (l .place) _ _ (turn p .loop-test .taken)
+          (more-got (next (head p)) (l .i) (done (head p)) x _ (l .place) _ _ q
           ∙ rw (taken-set 34 (pos 0) (l .i) (l .indices) x h (l .inv .filled)));
     })
 
 returns-2 : tie.Need-returns-2 Inv-loop μ-loop
 returns-2 c =
-    let at-bands = c .before .before .before in
-    let entry = at-bands .before .before .before .before in
-    let l = c .before .loop in
-    let a = entry .args in
-    let f = index (a .kind) (a .mode) (a .time) (a .t7) in
-    let n = at-bands .bands .ensures .0 in
-    let e = l .inv .so-far ∙ counted-done (more f) (l .i) _ (take (l .i) (l .indices)) (a .s .now) (l .place) (a .end)
-    (c .loop-test .left) in
+    let at-loop = c .before in
+    let l = at-loop .loop in
     ap (λ (xs : List ℤ). got xs (l .place)) (sym (filled-padded 34 (pos 0) (l .i) (l .indices) (omega arith) (l .inv .filled)))
-    ∙ indices-got (a .kind) (a .mode) (a .time) (a .t7) (a .s .now) (a .at) (a .end) _ _ (rw n at e)
+    ∙ indices-got _ _ _ _ _ _ _ _ _
+    (so-far at-loop ∙ counted-done (more (next at-loop)) (l .i) _ (done at-loop) _ (l .place) _ (c .loop-test .left))
 
 pub read-indices-spec : {M : Type 1} → statement M
 read-indices-spec =

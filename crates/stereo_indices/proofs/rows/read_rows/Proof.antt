@@ -48,44 +48,53 @@ loop-holds c =
       so-far = counted-start (more (next (a .kind) (a .mode) (a .rec))) (a .n) [] (a .s .now) (a .at) (a .end);
     })
 
+abbrev start : tie.At-loop Inv-loop μ-loop → tie.Start Inv-loop μ-loop
+start c = c .before .before .before .before .before
+
+-- the rows so far, and the one that follows them
+abbrev done : tie.At-loop Inv-loop μ-loop → List Row
+done c = take (c .loop .k) (c .loop .rows)
+
+abbrev following : tie.At-loop Inv-loop μ-loop → List Row → Reader Row
+following c = next (start c .args .kind) (start c .args .mode) (start c .args .rec)
+
 read-row-requires : tie.Need-read-row-requires Inv-loop μ-loop
-read-row-requires c κs =
-    let entry = c .before .before .before .before .before .before in
-    let p = entry .pre in (p .0, p .1)
+read-row-requires c κs = let p = start (c .before) .pre in (p .0, p .1)
 
 enum-told : tie.Need-enum-told Inv-loop μ-loop
 enum-told c = search needs
 
+abbrev head : tie.After-read-row Inv-loop μ-loop → tie.At-loop Inv-loop μ-loop
+head c = c .before .before
+
 -- the code reads what the definition reads
 step-is : (c : tie.After-read-row Inv-loop μ-loop) (e : Ended) → c .read-row .result .ended ≡ e
-    → let a = c .before .before .before .before .before .before .before .args in
-    let l = c .before .before .loop in
-    next (a .kind) (a .mode) (a .rec) (take (l .k) (l .rows)) (a .s .now) (l .place) (a .end) ≡ endedAnswer e (c .read-row .result .row)
+    → let a = start (head c) .args in
+    following (head c) (done (head c)) (a .s .now) (head c .loop .place) (a .end) ≡ endedAnswer e (c .read-row .result .row)
 step-is c e q =
-    let a = c .before .before .before .before .before .before .before .args in
-    let l = c .before .before .loop in
+    let a = start (head c) .args in
+    let l = head c .loop in
     ap (λ (h : Record). row (a .kind) (a .mode) h (a .s .now) (l .place) (a .end)) (sym (l .inv .left))
     ∙ sym (c .read-row .ensures) ∙ ap (λ (x : Ended). endedAnswer x (c .read-row .result .row)) q
 
 returns : tie.Need-returns Inv-loop μ-loop
 returns c =
     let p = c .before .before .before in
-    let l = p .before .before .loop in
-    let a = p .before .before .before .before .before .before .before .args in
-    let f = next (a .kind) (a .mode) (a .rec) in
+    let l = head p .loop in
+    let f = following (head p) in
+    let rows = done (head p) in
     let told = c .enum-told .given .1 in
-    let q = step-is p _ told in
-    let e = l .inv .so-far ∙ counted-stop (more f) (l .k) (a .n) (take (l .k) (l .rows)) (a .s .now) (l .place) (a .end) _ _
-    (p .before .loop-test .taken)
-    (more-refused f (l .k) (take (l .k) (l .rows)) (a .s .now) (l .place) (a .end) _ _ q) in
-    ap (λ (x : Ended). endedAnswer x (l .rows)) told ∙ rows-refused (a .kind) (a .mode) (a .rec) (a .s .now) (a .at) (a .end) (a .n) _ _ e
+    let e = l .inv .so-far ∙ counted-stop (more f) (l .k) _ rows _ (l .place) _ _ _ (p .before .loop-test .taken)
+    (more-refused f (l .k) rows _ (l .place) _ _ _ (step-is p _ told)) in
+    ap (λ (x : Ended). endedAnswer x (l .rows)) told ∙ rows-refused _ _ _ _ _ _ _ _ _ e
 
 loop-again : tie.Need-loop-again Inv-loop μ-loop
 loop-again c =
     let p = c .before .before .before .before .before in
-    let l = p .before .before .loop in
-    let a = p .before .before .before .before .before .before .before .args in
-    let f = next (a .kind) (a .mode) (a .rec) in
+    let l = head p .loop in
+    let a = start (head p) .args in
+    let f = following (head p) in
+    let rows = done (head p) in
     let x = p .read-row .result .row in
     let q = step-is p _ (c .before .before .ended .given .1) in
     let h : l .k < 4 = omega arith in
@@ -93,22 +102,17 @@ loop-again c =
     record {
       within = omega arith;
       filled = filled-set 4 noRow (l .k) (l .rows) x (l .inv .filled);
-      left = sym (ap (recordAfterRows (a .rec) (a .mode)) t ∙ recordAfterRows-more (a .rec) (a .mode) (take (l .k) (l .rows)) x);
-      so-far = l .inv .so-far ∙ counted-more (more f) (l .k) (a .n) (take (l .k) (l .rows)) _ (a .s .now) (l .place) (a .end) _
-          (p .before .loop-test .taken)
-          (more-got f (l .k) (take (l .k) (l .rows)) x (a .s .now) (l .place) (a .end) _ q ∙ rw t);
+      left = sym (ap (recordAfterRows (a .rec) (a .mode)) t ∙ recordAfterRows-more (a .rec) (a .mode) rows x);
+      so-far = l .inv .so-far ∙ counted-more (more f) (l .k) _ rows _ _ (l .place) _ _ (p .before .loop-test .taken)
+          (more-got f (l .k) rows x _ (l .place) _ _ q ∙ rw t);
     }
 
 returns-2 : tie.Need-returns-2 Inv-loop μ-loop
 returns-2 c =
-    let entry = c .before .before .before .before .before .before in
     let l = c .before .loop in
-    let a = entry .args in
-    let f = next (a .kind) (a .mode) (a .rec) in
-    let e = l .inv .so-far ∙ counted-done (more f) (l .k) (a .n) (take (l .k) (l .rows)) (a .s .now) (l .place) (a .end)
-    (c .loop-test .left) in
+    let e = l .inv .so-far ∙ counted-done (more (following (c .before))) (l .k) _ (done (c .before)) _ (l .place) _ (c .loop-test .left) in
     ap (λ (rs : List Row). got rs (l .place)) (sym (filled-padded 4 noRow (l .k) (l .rows) (omega arith) (l .inv .filled)))
-    ∙ rows-got (a .kind) (a .mode) (a .rec) (a .s .now) (a .at) (a .end) (a .n) _ _ e
+    ∙ rows-got _ _ _ _ _ _ _ _ _ e
 
 pub read-rows-spec : {M : Type 1} → statement M
 read-rows-spec =

@@ -27,8 +27,7 @@ returns c =
 sub-difference : tie.Need-sub-difference
 sub-difference c =
     let a = c .before .before .before in
-    rw (code-difference (a .args .kind) (a .args .mode) (a .args .entry) _ (a .pre) (c .middle .ensures))
-    (fits 90 (difference-abs (a .args .kind) (a .args .mode) (a .args .entry) (a .pre)) (omega arith))
+    rw (code-difference _ _ _ _ (a .pre) (c .middle .ensures)) (fits 90 (difference-abs _ _ _ (a .pre)) (omega arith))
 
 cast-result-2 : tie.Need-cast-result-2
 cast-result-2 c = wide-fits _ (c .before .before .before .fits .x)
@@ -36,15 +35,13 @@ cast-result-2 c = wide-fits _ (c .before .before .before .fits .x)
 add-result-2 : tie.Need-add-result-2
 add-result-2 c =
     let a = c .before .before .before in
-    rw (code-sum (a .args .kind) (a .args .mode) (a .args .entry) (a .args .x) _ (a .pre) (a .fits .x) (c .middle .ensures))
-    (fits 218 (sum-abs (a .args .kind) (a .args .mode) (a .args .entry) (a .args .x) (a .pre) (a .fits .x)) (omega arith))
+    rw (code-sum _ _ _ _ _ (a .pre) (a .fits .x) (c .middle .ensures)) (fits 218 (sum-abs _ _ _ _ (a .pre) (a .fits .x)) (omega arith))
 
 returns-2 : tie.Need-returns-2
 unfolding added
 returns-2 c =
     let a = c .before .before .before in
-    through w16 218 (code-sum (a .args .kind) (a .args .mode) (a .args .entry) (a .args .x) _ (a .pre) (a .fits .x) (c .middle .ensures))
-    (sum-abs (a .args .kind) (a .args .mode) (a .args .entry) (a .args .x) (a .pre) (a .fits .x)) (omega arith)
+    through w16 218 (code-sum _ _ _ _ _ (a .pre) (a .fits .x) (c .middle .ensures)) (sum-abs _ _ _ _ (a .pre) (a .fits .x)) (omega arith)
     ∙ rw (sym (c .before .before .is-phase .ensures) ∙ c .before .if1 .left)
 
 pub added-spec : {M : Type 1} → statement M

@@ -9,7 +9,7 @@ use native.Mathlib.Omega.{arith}
 use mathlib.Core.Path.{_≡_, _∙_, sym}
 use mir.Syntax.{w8, w16}
 use mir.ValLaws.{toZ-ofZ}
-use lib.IntN.{natAbs}
+use lib.IntN.{ℤ, natAbs}
 use Rattle.bits.proofs.Taken.{answered}
 use Rattle.bits.proofs.Signed.{fits, thru}
 use Rattle.stereo_indices.specs.Difference.{difference, added}
@@ -26,79 +26,74 @@ start c = c .before .before .before .before .before .before .before .before
 abbrev entry : tie.After-known-told → ℕ
 entry c = c .before .entry .given .0 .0
 
+-- the index with the entry's difference added
+abbrev sum : tie.After-known-told → ℤ
+sum c = let a = start c .args in added (a .kind) (a .mode) (a .from) (entry c)
+
 -- the table and the word
 word-is : (c : tie.After-known-told) → let a = start c .args in
     difference (a .kind) (a .mode) (a .time) (now (a .s)) (a .at) (a .end)
     ≡ got (entry c) (c .before .entry .given .0 .1 .0)
 word-is c =
     let t = c .before .before .before in
-    let d = t .before in
-    difference-is _ _ _ _ _ _ (d .difference-table .result) (d .difference-table .ensures .0)
-    (answered (t .table-word .ensures) (c .before .entry .given .1))
+    let d = t .before .difference-table in
+    difference-is _ _ _ _ _ _ (d .result) (d .ensures .0) (answered (t .table-word .ensures) (c .before .entry .given .1))
 
 -- entries are few
 entry-small : (c : tie.After-known-told) → entry c ≤ 60
 entry-small c =
     let t = c .before .before .before in
-    let d = t .before in
-    entry-le (d .difference-table .result) _ _ _ _ _ (d .difference-table .ensures .1) (d .difference-table .ensures .2)
-    (answered (t .table-word .ensures) (c .before .entry .given .1))
+    let d = t .before .difference-table in
+    entry-le (d .result) _ _ _ _ _ (d .ensures .1) (d .ensures .2) (answered (t .table-word .ensures) (c .before .entry .given .1))
 
 -- the index that the code adds, and the test that it makes
-added-is : (c : tie.After-added) → let a = start (c .before) .args in
-    c .added .result ≡ added (a .kind) (a .mode) (a .from) (entry (c .before))
+added-is : (c : tie.After-added) → c .added .result ≡ sum (c .before)
 added-is c = rw (toZ-ofZ w8 _ (start (c .before) .fits .from)) at (c .added .ensures)
 
-added-small : (c : tie.After-added) → let a = start (c .before) .args in
-    natAbs (added (a .kind) (a .mode) (a .from) (entry (c .before))) ≤ 218
-added-small c = added-abs _ _ _ _ (entry-small (c .before)) (byte-abs _ (start (c .before) .fits .from))
+wide : (c : tie.After-added) → toZ w16 (ofZ w16 (c .added .result)) ≡ sum (c .before)
+wide c =
+    let small = added-abs _ _ _ _ (entry-small (c .before)) (byte-abs _ (start (c .before) .fits .from)) in
+    through w16 218 (added-is c) small (omega arith)
 
-wide : (c : tie.After-added) → let a = start (c .before) .args in
-    toZ w16 (ofZ w16 (c .added .result)) ≡ added (a .kind) (a .mode) (a .from) (entry (c .before))
-wide c = through w16 218 (added-is c) (added-small c) (omega arith)
+abbrev summed : tie.After-within → tie.After-added
+summed c = c .before .before .before
 
-abbrev told : tie.After-within → tie.After-known-told
-told c = c .before .before .before .before
-
-tested : (c : tie.After-within) → let a = start (told c) .args in
-    c .within .result ≡ inRange (a .kind) (a .mode)
-    (added (a .kind) (a .mode) (a .from) (entry (told c)))
+tested : (c : tie.After-within) → let a = start (summed c .before) .args in
+    c .within .result ≡ inRange (a .kind) (a .mode) (sum (summed c .before))
 tested c =
-    let a = start (told c) .args in
-    let m = c .before in
+    let a = start (summed c .before) .args in
     rw (
-      through w16 15 (m .before .least .ensures) (least-abs (a .kind) (a .mode)) (omega arith),
-      through w16 15 (m .most .ensures) (most-abs (a .kind) (a .mode)) (omega arith),
-      wide (m .before .before),
+      through w16 15 (c .before .before .least .ensures) (least-abs (a .kind) (a .mode)) (omega arith),
+      through w16 15 (c .before .most .ensures) (most-abs (a .kind) (a .mode)) (omega arith),
+      wide (summed c),
     ) at (c .within .ensures)
 
 added-requires : tie.Need-added-requires
 added-requires c κs = entry-small c
 
+-- an index within its range is small
+within : (c : tie.Then1) → natAbs (sum (summed (c .before) .before)) ≤ 15
+within c = in-range-abs _ _ _ (sym (tested (c .before)) ∙ c .if1 .taken)
+
 cast-t21 : tie.Need-cast-t21
-cast-t21 c =
-    let r = in-range-abs _ _ _ (sym (tested (c .before)) ∙ c .if1 .taken) in
-    rw (wide (c .before .before .before .before)) (fits 15 r (omega arith))
+cast-t21 c = rw (wide (summed (c .before))) (fits 15 (within c) (omega arith))
 
 returns : tie.Need-returns
 returns c =
-    let g = sym (tested (c .before)) ∙ c .if1 .taken in
-    let w = c .before .before .before .before in
-    rw (wide w, thru w8 15 (in-range-abs _ _ _ g) (omega arith)) (index-got _ _ _ _ _ _ _ _ _ (word-is (w .before)) g)
+    let w = summed (c .before) in
+    rw (wide w, thru w8 15 (within c) (omega arith))
+    (index-got _ _ _ _ _ _ _ _ _ (word-is (w .before)) (sym (tested (c .before)) ∙ c .if1 .taken))
 
 returns-2 : tie.Need-returns-2
 returns-2 c =
-    let g = sym (tested (c .before)) ∙ c .if1 .left in
-    let w = c .before .before .before .before in
-    index-outside _ _ _ _ _ _ _ _ _ (word-is (w .before)) g
+    index-outside _ _ _ _ _ _ _ _ _ (word-is (summed (c .before) .before)) (sym (tested (c .before)) ∙ c .if1 .left)
 
 returns-3 : tie.Need-returns-3
 returns-3 c =
     let t = c .before .before .before in
-    let d = t .before in
+    let d = t .before .difference-table in
     index-refused _ _ _ _ _ _ _ _ _
-    (difference-is _ _ _ _ _ _ (d .difference-table .result) (d .difference-table .ensures .0)
-    (answered (t .table-word .ensures) (c .before .number .given .1)))
+    (difference-is _ _ _ _ _ _ (d .result) (d .ensures .0) (answered (t .table-word .ensures) (c .before .number .given .1)))
 
 pub read-index-spec : {M : Type 1} → statement M
 read-index-spec =
