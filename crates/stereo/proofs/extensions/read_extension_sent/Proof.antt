@@ -1,25 +1,38 @@
 -- A size of 4 bits and an escape of 8 are at most 270 bytes, so the sum fits; the part is then read as announced.
-use Prim.Native.Nat.{_<_, _≤_, _+_, _^_}
-use mathlib.Core.Path.{_∙_}
+use Prim.Native.Nat.{_≤_, _+_}
+use mathlib.Core.Path.{_≡_, _∙_}
 use native.Mathlib.Omega.{arith}
+use Rattle.bits.specs.Field.{field}
+use Rattle.bits.specs.Reader.{got}
 use Rattle.bits.proofs.Taken.{answered, field-below, passed}
-use Rattle.stereo.specs.Extension.{extensionSent}
+use Rattle.stereo.specs.Extension.{escCount, extensionSent}
 use Rattle.stereo.proofs.ExtensionLaws.{sent-rest, esc-below}
 use borrow.Author.Needs.{needs}
 use Rattle.stereo.proofs.extensions.read_extension_sent.Statement.{statement}
 use Rattle.stereo.proofs.extensions.read_extension_sent.Tie as tie
 
--- the size is at most 270
-size-le : (c : tie.After-known-told2)
-    → c .before .before .before .before .before .size-field .given .0 .0 + c .before .esc-field .given .0 .0 ≤ 270
+abbrev start : tie.After-size-field → tie.Start
+start c = c .before .before .before .before .before .before
+
+-- the size is read, then what may follow it
+size-is : (c : tie.After-size-field)
+    → let a = start c .args in field 4 (a .s .now) (a .at) (a .end) ≡ got (c .size-field .given .0 .0) (c .size-field .given .0 .1 .0)
+size-is c = answered (c .before .before .read-field .ensures) (c .size-field .given .1)
+
+abbrev sized : tie.After-esc-field → tie.After-size-field
+sized c = c .before .before .before .before
+
+esc-is : (c : tie.After-esc-field)
+    → let a = start (sized c) .args in
+    let size = sized c .size-field .given .0 in
+    escCount (size .0) (a .s .now) (size .1 .0) (a .end) ≡ got (c .esc-field .given .0 .0) (c .esc-field .given .0 .1 .0)
+esc-is c = answered (c .before .before .read-esc .ensures) (c .esc-field .given .1)
+
+-- together they are at most 270
+size-le : (c : tie.After-esc-field) → sized c .size-field .given .0 .0 + c .esc-field .given .0 .0 ≤ 270
 size-le c =
-    let got-esc = c .before in
-    let at-esc = got-esc .before .before in
-    let got-size = at-esc .before .before in
-    let a : got-size .size-field .given .0 .0 < 2 ^ 4 =
-    field-below 4 _ _ _ _ _ (answered (got-size .before .before .read-field .ensures) (got-size .size-field .given .1)) in
-    let b : got-esc .esc-field .given .0 .0 < 256 =
-    esc-below _ _ _ _ _ _ (answered (at-esc .read-esc .ensures) (got-esc .esc-field .given .1)) in
+    let a = field-below 4 _ _ _ _ _ (size-is (sized c)) in
+    let b = esc-below _ _ _ _ _ _ (esc-is c) in
     omega arith
 
 enum-told : tie.Need-enum-told
@@ -36,31 +49,20 @@ returns-2 : tie.Need-returns-2
 unfolding extensionSent
 returns-2 c =
     let at-esc = c .before .before .before in
-    let got-size = at-esc .before .before in
-    passed _ (c .refused-extension2 .ensures) (c .before .enum-told2 .given .1)
-    ∙ rw (
-      answered (got-size .before .before .read-field .ensures) (got-size .size-field .given .1),
-      answered (at-esc .read-esc .ensures) (c .before .enum-told2 .given .1),
-    )
+    let told = c .before .enum-told2 .given .1 in
+    passed _ (c .refused-extension2 .ensures) told ∙ rw (size-is (at-esc .before .before), answered (at-esc .read-esc .ensures) told)
 
 add-total : tie.Need-add-total
-add-total c = let l = size-le c in record { fits = omega arith }
+add-total c = let l = size-le (c .before) in record { fits = omega arith }
 
 read-announced-requires : tie.Need-read-announced-requires
-read-announced-requires c κs =
-    let entry = c .before .before .before .before .before .before .before .before .before .before .before in
-    let p = entry .pre in
-    (p .0, p .1, p .2, size-le c)
+read-announced-requires c κs = let p = start (sized (c .before)) .pre in (p .0, p .1, p .2, size-le (c .before))
 
 returns-3 : tie.Need-returns-3
 returns-3 c =
     let r = c .before .read-announced in
-    let got-esc = c .before .before .before in
-    let at-esc = got-esc .before .before in
-    let got-size = at-esc .before .before in
-    sent-rest _ _ _ _ _ _ _ _ _ _ _ (answered (got-size .before .before .read-field .ensures) (got-size .size-field .given .1))
-    (answered (at-esc .read-esc .ensures) (got-esc .esc-field .given .1))
-    (r .result .ended) (r .result .part) (r .ensures)
+    let e = c .before .before .before in
+    sent-rest _ _ _ _ _ _ _ _ _ _ _ (size-is (sized e)) (esc-is e) (r .result .ended) (r .result .part) (r .ensures)
 
 pub read-extension-sent-spec : {M : Type 1} → statement M
 read-extension-sent-spec =

@@ -55,45 +55,51 @@ loop-holds c =
       so-far = counted-start (more (next (a .mode) (a .records))) (a .n) [] (a .s .now) (a .at) (a .end);
     })
 
+abbrev start : tie.At-loop Inv-loop μ-loop → tie.Start Inv-loop μ-loop
+start c = c .before .before .before .before .before
+
+-- the phases so far, and those that follow them
+abbrev done : tie.At-loop Inv-loop μ-loop → List Phases
+done c = take (c .loop .k) (c .loop .phases)
+
+abbrev following : tie.At-loop Inv-loop μ-loop → List Phases → Reader Phases
+following c = next (start c .args .mode) (start c .args .records)
+
 read-phases-requires : tie.Need-read-phases-requires Inv-loop μ-loop
-read-phases-requires c κs =
-    let entry = c .before .before .before .before .before .before in
-    let p = entry .pre in (p .0, p .1)
+read-phases-requires c κs = let p = start (c .before) .pre in (p .0, p .1)
 
 enum-told : tie.Need-enum-told Inv-loop μ-loop
 enum-told c = search needs
 
+abbrev head : tie.After-read-phases Inv-loop μ-loop → tie.At-loop Inv-loop μ-loop
+head c = c .before .before
+
 -- the code reads what the definition reads
 step-is : (c : tie.After-read-phases Inv-loop μ-loop) (e : Ended) → c .read-phases .result .ended ≡ e
-    → let a = c .before .before .before .before .before .before .before .args in
-    let l = c .before .before .loop in
-    next (a .mode) (a .records) (take (l .k) (l .phases)) (a .s .now) (l .place) (a .end) ≡ endedAnswer e (c .read-phases .result .phases)
+    → let a = start (head c) .args in
+    following (head c) (done (head c)) (a .s .now) (head c .loop .place) (a .end) ≡ endedAnswer e (c .read-phases .result .phases)
 step-is c e q =
-    let a = c .before .before .before .before .before .before .before .args in
-    let l = c .before .before .loop in
+    let a = start (head c) .args in
+    let l = head c .loop in
     ap (λ (h : PhaseRecords). phasesIn (a .mode) (h .ipd) (h .opd) (a .s .now) (l .place) (a .end)) (sym (l .inv .left))
     ∙ sym (c .read-phases .ensures) ∙ ap (λ (x : Ended). endedAnswer x (c .read-phases .result .phases)) q
 
 returns : tie.Need-returns Inv-loop μ-loop
 returns c =
     let p = c .before .before .before in
-    let l = p .before .before .loop in
-    let a = p .before .before .before .before .before .before .before .args in
-    let f = next (a .mode) (a .records) in
+    let l = head p .loop in
+    let f = following (head p) in
     let told = c .enum-told .given .1 in
-    let q = step-is p _ told in
-    let e = l .inv .so-far ∙ counted-stop (more f) (l .k) (a .n) (take (l .k) (l .phases)) (a .s .now) (l .place) (a .end) _ _
-    (p .before .loop-test .taken)
-    (more-refused f (l .k) (take (l .k) (l .phases)) (a .s .now) (l .place) (a .end) _ _ q) in
-    ap (λ (x : Ended). endedAnswer x (l .phases)) told
-    ∙ all-refused (a .mode) (a .records .ipd) (a .records .opd) (a .s .now) (a .at) (a .end) (a .n) _ _ e
+    let e = l .inv .so-far ∙ counted-stop (more f) (l .k) _ (done (head p)) _ (l .place) _ _ _ (p .before .loop-test .taken)
+    (more-refused f (l .k) (done (head p)) _ (l .place) _ _ _ (step-is p _ told)) in
+    ap (λ (x : Ended). endedAnswer x (l .phases)) told ∙ all-refused _ _ _ _ _ _ _ _ _ e
 
 loop-again : tie.Need-loop-again Inv-loop μ-loop
 loop-again c =
     let p = c .before .before .before .before .before in
-    let l = p .before .before .loop in
-    let a = p .before .before .before .before .before .before .before .args in
-    let f = next (a .mode) (a .records) in
+    let l = head p .loop in
+    let a = start (head p) .args in
+    let f = following (head p) in
     let x = p .read-phases .result .phases in
     let q = step-is p _ (c .before .before .ended .given .1) in
     let h : l .k < 4 = omega arith in
@@ -101,23 +107,17 @@ loop-again c =
     record {
       within = omega arith;
       filled = filled-set 4 noPhases (l .k) (l .phases) x (l .inv .filled);
-      left = c .left-by .ensures
-          ∙ sym (ap (after (a .records) (a .mode)) t ∙ after-more (a .records) (a .mode) (take (l .k) (l .phases)) x);
-      so-far = l .inv .so-far ∙ counted-more (more f) (l .k) (a .n) (take (l .k) (l .phases)) _ (a .s .now) (l .place) (a .end) _
-          (p .before .loop-test .taken)
-          (more-got f (l .k) (take (l .k) (l .phases)) x (a .s .now) (l .place) (a .end) _ q ∙ rw t);
+      left = c .left-by .ensures ∙ sym (ap (after (a .records) (a .mode)) t ∙ after-more (a .records) (a .mode) (done (head p)) x);
+      so-far = l .inv .so-far ∙ counted-more (more f) (l .k) _ (done (head p)) _ _ (l .place) _ _ (p .before .loop-test .taken)
+          (more-got f (l .k) (done (head p)) x _ (l .place) _ _ q ∙ rw t);
     }
 
 returns-2 : tie.Need-returns-2 Inv-loop μ-loop
 returns-2 c =
-    let entry = c .before .before .before .before .before .before in
     let l = c .before .loop in
-    let a = entry .args in
-    let f = next (a .mode) (a .records) in
-    let e = l .inv .so-far ∙ counted-done (more f) (l .k) (a .n) (take (l .k) (l .phases)) (a .s .now) (l .place) (a .end)
-    (c .loop-test .left) in
+    let e = l .inv .so-far ∙ counted-done (more (following (c .before))) (l .k) _ (done (c .before)) _ (l .place) _ (c .loop-test .left) in
     ap (λ (rs : List Phases). got rs (l .place)) (sym (filled-padded 4 noPhases (l .k) (l .phases) (omega arith) (l .inv .filled)))
-    ∙ all-got (a .mode) (a .records .ipd) (a .records .opd) (a .s .now) (a .at) (a .end) (a .n) _ _ e
+    ∙ all-got _ _ _ _ _ _ _ _ _ e
 
 pub read-phases-of-spec : {M : Type 1} → statement M
 read-phases-of-spec =
