@@ -5,6 +5,7 @@ use lib.IntN.{ℤ, pos, natAbs}
 use lib.ListN.{getD}
 use native.Mathlib.Omega.{arith}
 use mir.Syntax.{w16, w32}
+use mir.Val.{toZ, ofZ}
 use mir.ValLaws.{toZ-ofZ}
 use Rattle.bits.proofs.Signed.{fits}
 use Rattle.channel_side.specs.Pulses.{pulsed}
@@ -23,37 +24,31 @@ after c =
     let whole = toZ-ofZ w16 _ (record { sfits = c .before .pulsed-line-arg .given }) in
     c .pulsed-line .ensures ∙ ap (λ (z : ℤ). pulsed z (entry c .args .amplitude)) whole
 
+-- which the test reads as it is
+whole : (c : tie.After-pulsed-line) → toZ w32 (ofZ w32 (c .pulsed-line .result)) ≡ c .pulsed-line .result
+whole c = toZ-ofZ w32 _ (record { sfits = c .pulsed-line .ok })
+
 -- it is in range past both tests
-small : (c : tie.Else2) → natAbs (c .before .before .pulsed-line .result) ≤ 8191
+abbrev judged : tie.Else2 → tie.After-pulsed-line
+judged c = c .before .before
+
+small : (c : tie.Else2) → natAbs (judged c .pulsed-line .result) ≤ 8191
 small c =
-    let p = c .before .before .pulsed-line in
-    let whole = toZ-ofZ w32 (p .result) (record { sfits = p .ok }) in
-    in-range (p .result) (rw whole at (c .before .if1 .left)) (rw whole at (c .if2 .left))
+    in-range (judged c .pulsed-line .result) (rw (whole (judged c)) at (c .before .if1 .left)) (rw (whole (judged c)) at (c .if2 .left))
 
 returns : tie.Need-returns
-returns c =
-    let p = c .before .pulsed-line in
-    changed-low _ _ _ _ _ (rw (toZ-ofZ w32 _ (record { sfits = p .ok }), after (c .before)) at (c .if1 .taken))
+returns c = changed-low _ _ _ _ _ (rw (whole (c .before), after (c .before)) at (c .if1 .taken))
 
 returns-2 : tie.Need-returns-2
-returns-2 c =
-    let p = c .before .before .pulsed-line in
-    changed-high _ _ _ _ _ (rw (toZ-ofZ w32 _ (record { sfits = p .ok }), after (c .before .before)) at (c .if2 .taken))
+returns-2 c = changed-high _ _ _ _ _ (rw (whole (c .before .before), after (c .before .before)) at (c .if2 .taken))
 
 cast-lines : tie.Need-cast-lines
-cast-lines c =
-    let p = c .before .before .pulsed-line in
-    rw (toZ-ofZ w32 (p .result) (record { sfits = p .ok })) (fits 8191 (small c) (omega arith))
+cast-lines c = rw (whole (judged c)) (fits 8191 (small c) (omega arith))
 
 returns-3 : tie.Need-returns-3
 returns-3 c =
-    let p = c .before .before .pulsed-line in
-    let q = after (c .before .before) in
-    rw (
-      toZ-ofZ w32 (p .result) (record { sfits = p .ok }),
-      toZ-ofZ w16 (p .result) (fits 8191 (small c) (omega arith)),
-      q,
-    )
+    let q = after (judged c) in
+    rw (whole (judged c), toZ-ofZ w16 (judged c .pulsed-line .result) (fits 8191 (small c) (omega arith)), q)
     (changed-got _ _ _ _ _ (rw q at (small c)))
 
 pub apply-pulse-spec : {M : Type 1} → statement M

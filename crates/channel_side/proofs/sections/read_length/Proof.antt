@@ -23,18 +23,23 @@ abbrev μ-loop : tie.MeasureT-loop
 abbrev entry : tie.After-increment Inv-loop μ-loop → tie.Start Inv-loop μ-loop
 entry c = c .before .before .before .before .before
 
+abbrev head : tie.After-increment Inv-loop μ-loop → tie.At-loop Inv-loop μ-loop
+head c = c .before .before .before
+
 -- the increment of a turn
 increment : (c : tie.After-increment Inv-loop μ-loop)
-    → field (entry c .args .width) (entry c .args .s .now) (c .before .before .before .loop .place) (entry c .args .end)
+    → field (entry c .args .width) (entry c .args .s .now) (head c .loop .place) (entry c .args .end)
     ≡ got (c .increment .given .0 .0) (c .increment .given .0 .1 .0)
 increment c = answered (c .before .before .read-field .ensures) (c .increment .given .1)
 
 -- an increment is all ones: it is one at least
+abbrev added : tie.Else3 Inv-loop μ-loop → tie.After-increment Inv-loop μ-loop
+added c = c .before .before .before .before
+
 all-ones : (c : tie.Else3 Inv-loop μ-loop)
-    → (c .before .before .before .before .increment .given .0 .0 + 1 ≡ 2 ^ entry (c .before .before .before .before) .args .width)
-    × (1 ≤ c .before .before .before .before .increment .given .0 .0)
+    → (added c .increment .given .0 .0 + 1 ≡ 2 ^ entry (added c) .args .width) × (1 ≤ added c .increment .given .0 .0)
 all-ones c =
-    let width = entry (c .before .before .before .before) .args .width in
+    let width = entry (added c) .args .width in
     let e = c .if3 .left ∙ shifted width (omega arith) in
     (e, omega (arith, e, pow-mono {i = 1} {j = width} (omega arith)))
 
@@ -56,20 +61,17 @@ add-bands c =
 returns-2 : tie.Need-returns-2 Inv-loop μ-loop
 returns-2 c =
     let turn = c .before .before in
-    let l = turn .before .before .before .loop in
-    (sym (l .inv .1 ∙ length-none _ _ _ _ _ _ (increment turn) (c .if1 .taken)), tt)
+    (sym (head turn .loop .inv .1 ∙ length-none _ _ _ _ _ _ (increment turn) (c .if1 .taken)), tt)
 
 returns-3 : tie.Need-returns-3 Inv-loop μ-loop
 returns-3 c =
     let turn = c .before .before .before in
-    let l = turn .before .before .before .loop in
-    (sym (l .inv .1 ∙ length-past _ _ _ _ _ _ (increment turn) (omega arith) (c .if2 .taken)), tt)
+    (sym (head turn .loop .inv .1 ∙ length-past _ _ _ _ _ _ (increment turn) (omega arith) (c .if2 .taken)), tt)
 
 returns-4 : tie.Need-returns-4 Inv-loop μ-loop
 returns-4 c =
-    let turn = c .before .before .before .before in
-    let l = turn .before .before .before .loop in (
-      sym (l .inv .1
+    let turn = c .before .before .before .before in (
+      sym (head turn .loop .inv .1
           ∙ length-done _ _ _ _ _ _ (increment turn) (omega arith) (omega arith) (omega arith)
           (λ q. c .if3 .taken (q ∙ sym (shifted _ (omega arith))))),
       (omega arith, omega arith),
@@ -80,9 +82,8 @@ loop-less c = omega (arith, all-ones c)
 
 loop-again : tie.Need-loop-again Inv-loop μ-loop
 loop-again c =
-    let turn = c .before .before .before .before in
-    let l = turn .before .before .before .loop in
-    (omega arith, l .inv .1 ∙ length-more _ _ _ _ _ _ (increment turn) (omega arith) (omega arith) (omega arith) (all-ones c .0))
+    let l = head (added c) .loop in
+    (omega arith, l .inv .1 ∙ length-more _ _ _ _ _ _ (increment (added c)) (omega arith) (omega arith) (omega arith) (all-ones c .0))
 
 pub read-length-spec : {M : Type 1} → statement M
 read-length-spec =
