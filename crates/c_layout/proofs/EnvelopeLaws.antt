@@ -1,22 +1,16 @@
 -- One envelope more.
 -- Assumes nothing.
-use Prim.Native.Nat.{ℕ, zero, suc, _+_, _<_}
-use mathlib.Core.Path.{_≡_, refl}
-use mathlib.Core.List.{List, [], _∷_, _++_}
-use native.Mathlib.Omega.{arith}
+use Prim.Native.Nat.{ℕ, _+_, _<_}
+use mathlib.Core.Path.{_≡_}
+use mathlib.Core.List.{List, _++_}
 use native.Mathlib.Numerals.{add-one}
 use lib.ListN.{length, getD}
 use Rattle.stereo_indices.specs.Rows.{noRow}
 use Rattle.stereo_indices.specs.declared.Row.{Row}
 use Rattle.stereo.specs.Extension.{noPhases}
 use Rattle.stereo.specs.declared.Phases.{Phases}
+use Rattle.stereo.proofs.TurnLaws.{getD-there}
 use Rattle.c_layout.specs.ContentsBytes.{envelopeBytes, envelopesBytes}
-
--- an element that is there is the same whatever stands for none
-getD-there : {A : Type 0} (l : List A) (i : ℕ) (a b : A) → i < length l → getD l i a ≡ getD l i b
-getD-there [] i a b h = absurd (omega arith)
-getD-there (x ∷ xs) zero a b h = refl
-getD-there (x ∷ xs) (suc i) a b h = getD-there xs i a b (omega arith)
 
 pub envelopes-more : (iid icc : List Row) (phases : List Phases) (e : ℕ) (a b : Row) (p : Phases)
     → e < length iid → e < length icc → e < length phases
