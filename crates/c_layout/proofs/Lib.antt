@@ -1,3 +1,4 @@
 pub mod StateLaws
 pub mod EnvelopeLaws
+pub mod BackLaws
 pub mod Turn

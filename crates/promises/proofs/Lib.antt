@@ -2,6 +2,7 @@ pub mod Turns
 pub mod Demands
 pub mod Unique
 pub mod UniqueCalls
+pub mod FitLaws
 pub mod OverBytes
 pub mod Bench
 pub mod StereoExamples

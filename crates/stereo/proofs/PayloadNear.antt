@@ -72,7 +72,7 @@ header-near =
     (bind-near 4 5 _ _ switch-near λ iid. bind-near 4 1 _ _ switch-near λ icc. bind-near 1 0 _ _ (field-near 1) λ ext. give-near 0 _)
     (give-near 9 _)
 
-count-le : (class i : ℕ) → i < 4 → envelopeCount class i ≤ 4
+pub count-le : (class i : ℕ) → i < 4 → envelopeCount class i ≤ 4
 unfolding envelopeCount
 count-le class i h = go (eqb class 1) (eqb i 3)
   where

@@ -28,6 +28,7 @@ use Rattle.stereo_indices.specs.declared.Kind.the-variants.{Iid, Icc, Ipd, Opd}
 use Rattle.stereo_indices.specs.declared.Record.{Record}
 use Rattle.stereo_indices.specs.declared.Row.{Row}
 use Rattle.stereo_indices.proofs.IndexLaws.{index-ranged}
+use Rattle.stereo.proofs.TurnLaws.{every-replicate, every-at}
 use Rattle.stereo.specs.State.{isSent, soundSetup, sound}
 use Rattle.stereo.specs.Header.{noHeader, mode, switch, headerFields, header, setupAfter}
 use Rattle.stereo.specs.Frame.{frame}
@@ -48,18 +49,8 @@ or-left : (a b : Bool) → a ≡ true → (a || b) ≡ true
 or-left true b p = refl
 or-left false b p = absurd (true-false false p refl)
 
--- what each element has
-every-replicate : {A : Type 0} (P : A → Type 0) (n : ℕ) (x : A) → P x → Every P (replicate n x)
-every-replicate P zero x p = tt
-every-replicate P (suc n) x p = (p, every-replicate P n x p)
-
-every-at : {A : Type 0} (P : A → Type 0) (xs : List A) (i : ℕ) (d : A) → Every P xs → P d → P (getD xs i d)
-every-at P [] i d p q = q
-every-at P (x ∷ xs) zero d p q = p .0
-every-at P (x ∷ xs) (suc i) d p q = every-at P xs i d (p .1) q
-
 -- n readings, filled up
-padded-gives : {A : Type 0} (P : A → Type 0) (f : List A → Reader A) → ((xs : List A) → Gives P (f xs)) → (z : A) (m n : ℕ) → P z
+pub padded-gives : {A : Type 0} (P : A → Type 0) (f : List A → Reader A) → ((xs : List A) → Gives P (f xs)) → (z : A) (m n : ℕ) → P z
     → Gives (Every P) (listed n f >>= λ xs. give (padded m z xs))
 padded-gives P f g z m n p =
     map-gives (padded m z) (listed-gives P f g n) λ xs q.

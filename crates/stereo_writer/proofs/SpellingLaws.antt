@@ -225,7 +225,7 @@ v0-spelt mode ipd opd n =
     give-spelt (rw (eqb-true reserved 0 (y .1))) tt
 
 -- another id is never accepted
-another-spelt : Spelt another [] spellFill (Filled 7)
+pub another-spelt : Spelt another [] spellFill (Filled 7)
 unfolding another
 another-spelt = bind-spelt here-spelt λ place _. bind-spelt (field-spelt 2) λ id _. refuseAt-spelt (pick (eqb id 0) 33 13) place
 
