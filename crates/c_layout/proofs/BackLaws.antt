@@ -39,6 +39,10 @@ pub record Fitting (xs : List ℤ) : Type 0 where
   pub count : length xs ≡ 34
   pub each : Every (SFits w8) xs
 
+pub zeros-fit : Fitting zeros
+unfolding zeros
+zeros-fit = record { count = refl; each = every-replicate (SFits w8) 34 (pos 0) (record { sfits = omega arith }) }
+
 -- a row that fits 35 bytes
 pub record Fits (r : Row) : Type 0 where
   pub time : r .time < 256
@@ -66,11 +70,8 @@ row-back pre post r at e f =
     rw (m, d, t, indices-back (r .indices) (f .indices .each))
 
 pub no-row-fits : Fits noRow
-unfolding noRow zeros
-no-row-fits = record {
-  time = omega arith;
-  indices = record { count = refl; each = every-replicate (SFits w8) 34 (pos 0) (record { sfits = omega arith }) };
-}
+unfolding noRow
+no-row-fits = record { time = omega arith; indices = zeros-fit }
 
 -- rows one after another
 abbrev rowsBytes : List Row → List ℕ

@@ -4,6 +4,7 @@ pub mod Unique
 pub mod UniqueCalls
 pub mod FitLaws
 pub mod OverBytes
+pub mod CallRuns
 pub mod Bench
 pub mod StereoExamples
 pub mod Published

@@ -91,7 +91,7 @@ module _ (st : State) where
   touching-pick true r e h = absurd (h e)
   touching-pick false r e h = (refl, refl)
 
-  bytes-touching : (s : List ℕ) → Touching (readBytes st s)
+  pub bytes-touching : (s : List ℕ) → Touching (readBytes st s)
   unfolding readBytes taken
   bytes-touching s = by-answer (whole (payload (from st)) s) refl
     where

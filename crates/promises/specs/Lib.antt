@@ -1,3 +1,4 @@
 pub mod Run
+pub mod CallRun
 pub mod Bench
 pub mod Refusals

@@ -218,13 +218,13 @@ flag-sound false true false new m p q = refl
 flag-sound false false old new m p q = q
 
 -- the parts of a sound set-up
-record Set (f : Setup) : Type 0 where
+pub record Set (f : Setup) : Type 0 where
   pub iidmode : soundMode (f .iidmode) ≡ true
   pub iccmode : soundMode (f .iccmode) ≡ true
   pub iid : (not (f .iid) || isSent (f .iidmode)) ≡ true
   pub icc : (not (f .icc) || isSent (f .iccmode)) ≡ true
 
-set-up : (f : Setup) → soundSetup f ≡ true → Set f
+pub set-up : (f : Setup) → soundSetup f ≡ true → Set f
 unfolding soundSetup
 set-up f e =
     let a = and-both _ _ e in
@@ -284,14 +284,14 @@ record-sound k true m h n xs p q r = go (eqb n 0)
     go false = and-of (soundMode m) _ q r
 
 -- the parts of a sound state
-record Parts (st : State) : Type 0 where
+pub record Parts (st : State) : Type 0 where
   pub setup : soundSetup (st .setup) ≡ true
   pub iid : soundRecord Iid (st .iid) ≡ true
   pub icc : soundRecord Icc (st .icc) ≡ true
   pub ipd : soundRecord Ipd (st .ipd) ≡ true
   pub opd : soundRecord Opd (st .opd) ≡ true
 
-parts : (st : State) → sound st ≡ true → Parts st
+pub parts : (st : State) → sound st ≡ true → Parts st
 unfolding sound
 parts st e =
     let a = and-both _ _ e in

@@ -1,0 +1,267 @@
+-- A run of calls is a run of the machine: of the reader by value, over a lent state, and for C over kept bytes.
+-- Assumes nothing.
+use Prim.Native.Nat.{ℕ, _*_, _<_, _≤_}
+use mathlib.Core.Path.{_≡_, refl, sym, ap, _∙_}
+use mathlib.Core.List.{List, [], _∷_, _++_}
+use mathlib.Core.Bool.{Bool, true, false, _&&_, _||_}
+use native.Mathlib.Omega.{arith}
+use native.Mathlib.Decide.{decLe}
+use borrow.Author.Tests.{le-leb, eqb-true, eq-eqb}
+use lib.Dec.{eqb}
+use lib.ListN.{length, getD, drop, length-set, length-append, length-drop}
+use lib.Seq.{getD-set-same, getD-set-other}
+use Rattle.bits.specs.Reader.{Answer, got, refused, pick}
+use Rattle.bits.specs.Bytes.{flagByte, over}
+use Rattle.bits.specs.Payload.{inBuffer, range, whole}
+use Rattle.bits.proofs.Bools.{and-both, and-of, true-false}
+use Rattle.bits.proofs.OverLaws.{over-front}
+use Rattle.bits.proofs.PayloadLaws.{whole-got}
+use Rattle.stereo.specs.State.{fresh, sound, lost}
+use Rattle.stereo.specs.Payload.{payload as payload-reader}
+use Rattle.stereo.specs.Carried.{carried}
+use Rattle.stereo.specs.Restart.{restart}
+use Rattle.stereo.specs.declared.State.{State}
+use Rattle.stereo.specs.declared.Contents.{Contents}
+use Rattle.stereo.proofs.PayloadLaws.{payload-lawful}
+use Rattle.stereo.proofs.PayloadNear.{payload-near}
+use Rattle.stereo_laws.proofs.SoundLaws.{carried-sound}
+use Rattle.stereo_writer.proofs.PayloadNumbers.{whole-not-0}
+use Rattle.stereo_reader.specs.Reading.{from, refusal, taken, readingOf, readBytes, readFrom, missing}
+use Rattle.stereo_reader.specs.declared.Reading.{Reading}
+use Rattle.stereo.proofs.StateLaws.{lost-sound}
+use Rattle.c_layout.specs.StateBytes.{stateHead, stateBytes, stateAt, isFlag, soundBytes}
+use Rattle.c_layout.specs.ContentsBytes.{contentsAt, answerBytes}
+use Rattle.c_layout.proofs.StateLaws.{SoundParts, sound-parts, sound-of, flagged}
+use Rattle.c_layout.proofs.BackLaws.{ContentsFit, StateFits, state-back, contents-back, bits-back}
+use Rattle.c_stereo.specs.StateCalls.{lostBytes}
+use Rattle.c_stereo.specs.ReadStereo.{stereoCallRefusal, stereoReading, stereoNumber, stereoStateAfter, stereoAnswerAfter}
+use Rattle.runs.specs.Machine.{Event, payload, missing as reporting, reported, Turn, turn, run}
+use Rattle.runs.proofs.TurnLaws.{origin-sound}
+use Rattle.promises.specs.Run.{stereo, turnOf, reportOf}
+use Rattle.promises.specs.CallRun.{calls, lentCalls, Kept, keptAfter, byteOutcome, byteCalls}
+use Rattle.promises.proofs.OverBytes.{lost-bytes}
+use Rattle.promises.proofs.Turns.{steady, reads, reports}
+use Rattle.promises.proofs.Untouched.{bytes-touching}
+use Rattle.promises.proofs.FitLaws.{payload-fits, fresh-fits, carried-fits, state-at-fits}
+
+-- a turn, and a run from the state that it leaves
+next : (st : State) (e : Event) (t : Turn State Contents) → turn stereo st e ≡ t → (es : List Event)
+    → run stereo st (e ∷ es) ≡ t ∷ run stereo (t .state) es
+next st e t q es = ap (λ (u : Turn State Contents). u ∷ run stereo (u .state) es) q
+
+pub by-value : (st : State) (es : List Event) → calls st es ≡ run stereo st es
+by-value st [] = refl
+by-value st (payload b start end ∷ es) =
+    ap (λ (ts : List (Turn State Contents)). turnOf (readFrom st b start end) ∷ ts) (by-value (readFrom st b start end .state) es)
+    ∙ sym (next st (payload b start end) (turnOf (readFrom st b start end)) (reads st b start end) es)
+by-value st (reporting ∷ es) =
+    ap (λ (ts : List (Turn State Contents)). reportOf (missing st) ∷ ts) (by-value (missing st .state) es)
+    ∙ sym (next st reporting (reportOf (missing st)) (reports st) es)
+
+pub over-lent : (st : State) (es : List Event) → lentCalls st es ≡ calls st es
+over-lent st [] = refl
+over-lent st (payload b start end ∷ es) =
+    ap (λ (ts : List (Turn State Contents)). turnOf (readFrom st b start end) ∷ ts) (over-lent (readFrom st b start end .state) es)
+over-lent st (reporting ∷ es) = ap (λ (ts : List (Turn State Contents)). reportOf (missing st) ∷ ts) (over-lent (missing st .state) es)
+
+-- what an accepted reading from a sound state holds fits its bytes
+record Well (r : Reading) : Type 0 where
+  bits : r .bits < 4294967296
+  contents : ContentsFit (r .contents)
+  fitting : StateFits (r .state)
+  sound : sound (r .state) ≡ true
+
+module _ (st : State) (h : sound st ≡ true) (f : StateFits st) where
+  from-fits : StateFits (from st)
+  from-fits = go (st .instep)
+    where
+      go : (b : Bool) → StateFits (pick b st fresh)
+      go true = f
+      go false = fresh-fits
+
+  -- a payload uses at most 8,192 bits, or as many as there are where they are fewer
+  few-bits : (s : List ℕ) (c : Contents) (n : ℕ) → payload-reader (from st) s 0 (8 * length s) ≡ got c n → n < 4294967296
+  few-bits s c n e =
+      elim (decLe 8192 (8 * length s)) [
+        | yes d ↦ let w = payload-near (from st) .reach s 0 (8 * length s) n c d e in omega arith
+        | no d ↦ let w = payload-lawful (from st) .within s 0 (8 * length s) n c (omega arith) e in omega arith
+      ]
+
+  well : (s : List ℕ) → readBytes st s .number ≡ 0 → Well (readBytes st s)
+  unfolding readBytes taken
+  well s = by-answer (whole (payload-reader (from st)) s) refl
+    where
+      kind : (c : Contents) (n : ℕ) → whole (payload-reader (from st)) s ≡ got c n → (b : Bool)
+          → pick b (record { number = 0; bits = n; contents = c; state = carried (from st) c }) (refusal 35 (lost st)) .number ≡ 0
+          → Well (pick b (record { number = 0; bits = n; contents = c; state = carried (from st) c }) (refusal 35 (lost st)))
+      kind c n e true z =
+          let w = whole-got (payload-reader (from st)) s n c e .0 in
+          let g = payload-fits (from st) .law s 0 (8 * length s) n c w in
+          record {
+            bits = few-bits s c n w;
+            contents = g;
+            fitting = carried-fits (from st) c from-fits g;
+            sound = carried-sound (from st) s n c (origin-sound stereo steady st h) e;
+          }
+      kind c n e false z = absurd (omega arith)
+
+      by-answer : (x : Answer Contents) → whole (payload-reader (from st)) s ≡ x → readingOf st x .number ≡ 0 → Well (readingOf st x)
+      by-answer (got c n) e = kind c n e (st .instep || restart c)
+      by-answer (refused n p) e = λ z. absurd (whole-not-0 (from st) s n p e z)
+
+-- bytes after a call, as the bytes of a new state or answer before what is left of the old
+after-front : (s xs : List ℕ) → over s 0 xs ≡ xs ++ drop (length xs) s
+after-front s xs = over-front s xs (length xs) refl
+
+-- they are no fewer
+no-fewer : (s xs : List ℕ) (n : ℕ) → n ≤ length s → n ≤ length (over s 0 xs)
+no-fewer s xs n h = rw (after-front s xs, length-append xs (drop (length xs) s), length-drop (length xs) s) (omega arith)
+
+-- flags are 0 or 1
+flag-byte : (b : Bool) → isFlag (flagByte b) ≡ true
+flag-byte true = refl
+flag-byte false = refl
+
+written-flags : (st : State) (rest : List ℕ) → flagged (stateBytes st ++ rest) ≡ true
+unfolding stateBytes stateHead
+written-flags st rest = rw (flag-byte (st .setup .iid), flag-byte (st .setup .icc), flag-byte (st .setup .ext), flag-byte (st .instep))
+
+lost-flags : (s : List ℕ) → 146 ≤ length s → flagged s ≡ true → flagged (lostBytes s) ≡ true
+lost-flags s h e =
+    let first = isFlag (getD s 0 0) && isFlag (getD s 1 0) && isFlag (getD s 2 0) in
+    rw (
+      getD-set-other s 5 0 0 0 (λ e. absurd (omega arith)),
+      getD-set-other s 5 1 0 0 (λ e. absurd (omega arith)),
+      getD-set-other s 5 2 0 0 (λ e. absurd (omega arith)),
+      getD-set-same s 5 0 0 (omega arith),
+    )
+    (and-of first true (and-both first (isFlag (getD s 5 0)) e .0) refl)
+
+-- the state that the kept bytes stand for, after they are lost or written
+lost-soundly : (s : List ℕ) → soundBytes s ≡ true → soundBytes (lostBytes s) ≡ true
+lost-soundly s e =
+    let p = sound-parts s e in
+    sound-of (lostBytes s) (record {
+      long = rw (length-set s 5 0) (p .long);
+      flags = lost-flags s (p .long) (p .flags);
+      state = rw (lost-bytes s (omega (arith, p .long))) (lost-sound (stateAt s) ∙ p .state);
+    })
+
+written-back : (s : List ℕ) (st : State) → StateFits st → stateAt (over s 0 (stateBytes st)) ≡ st
+written-back s st f = ap stateAt (after-front s (stateBytes st)) ∙ state-back st (drop (length (stateBytes st)) s) f
+
+written-soundly : (s : List ℕ) (st : State) → 146 ≤ length s → StateFits st → sound st ≡ true → soundBytes (over s 0 (stateBytes st)) ≡ true
+written-soundly s st h f e =
+    sound-of (over s 0 (stateBytes st)) (record {
+      long = no-fewer s (stateBytes st) 146 h;
+      flags = ap flagged (after-front s (stateBytes st)) ∙ written-flags st (drop (length (stateBytes st)) s);
+      state = rw (written-back s st f) e;
+    })
+
+-- what a handset keeps is all there
+record Keeps (k : Kept) : Type 0 where
+  sound : soundBytes (k .state) ≡ true
+  room : 582 ≤ length (k .answer)
+
+-- one call
+abbrev byteTurn : Kept → Event → Turn State Contents
+byteTurn k e = record { outcome = byteOutcome k e; state = stateAt (keptAfter k e .state) }
+
+module _ (k : Kept) (w : Keeps k) where
+  abbrev st : State
+  st = stateAt (k .state)
+
+  reported-keeps : Keeps (keptAfter k reporting)
+  reported-keeps = rw (w .sound) (record { sound = lost-soundly (k .state) (w .sound); room = w .room })
+
+  reported-turn : byteTurn k reporting ≡ turn stereo st reporting
+  reported-turn =
+      let p = sound-parts (k .state) (w .sound) in
+      rw (w .sound, p .state) (ap (λ (x : State). record { outcome = reported; state = x }) (lost-bytes (k .state) (omega (arith, p .long))))
+
+  module _ (b : List ℕ) (start end : ℕ) where
+    abbrev event : Event
+    event = payload b start end
+
+    abbrev r : Reading
+    r = readBytes st (range b start end)
+
+    -- a range outside its buffer is judged by the call
+    outside : inBuffer start end (length b) ≡ false → (byteTurn k event ≡ turn stereo st event) × Keeps (keptAfter k event)
+    unfolding stereoNumber stereoStateAfter stereoAnswerAfter stereoCallRefusal
+    outside e = (rw e, rw e w)
+
+    module _ (e : inBuffer start end (length b) ≡ true) where
+      called : stereoCallRefusal (k .state) (length b) start end (length (k .answer)) ≡ 0
+      unfolding stereoCallRefusal
+      called = rw (e, le-leb 582 (length (k .answer)) (w .room), w .sound)
+
+      number-is : stereoNumber (k .state) b start end (length (k .answer)) ≡ r .number
+      unfolding stereoNumber
+      number-is = rw called
+
+      turn-is : turn stereo st event ≡ turnOf r
+      unfolding readFrom
+      turn-is = reads st b start end ∙ rw (e, sound-parts (k .state) (w .sound) .state)
+
+      accepted : r .number ≡ 0 → (byteTurn k event ≡ turnOf r) × Keeps (keptAfter k event)
+      unfolding stereoStateAfter stereoAnswerAfter
+      accepted z =
+          let y = eq-eqb (r .number) 0 z in
+          let p = sound-parts (k .state) (w .sound) in
+          let good = well st (p .state) (state-at-fits (k .state) (w .sound)) (range b start end) z in
+          let bytes = answerBytes (r .bits) (r .contents) in
+          let left = drop (length bytes) (k .answer) in
+          let front = after-front (k .answer) bytes in (
+            rw (
+              number-is,
+              called,
+              y,
+              written-back (k .state) (r .state) (good .fitting),
+              front,
+              contents-back (r .bits) (r .contents) left (good .contents),
+              bits-back (r .bits) (r .contents) left (good .bits),
+            ),
+            rw (number-is, called, y) (record {
+              sound = written-soundly (k .state) (r .state) (p .long) (good .fitting) (good .sound);
+              room = no-fewer (k .answer) bytes 582 (w .room);
+            }),
+          )
+
+      not-accepted : eqb (r .number) 0 ≡ false → (byteTurn k event ≡ turnOf r) × Keeps (keptAfter k event)
+      unfolding stereoStateAfter stereoAnswerAfter
+      not-accepted z =
+          let p = sound-parts (k .state) (w .sound) in
+          let t = bytes-touching st (range b start end) (λ q. true-false _ (eq-eqb (r .number) 0 q) z) .0 in
+          let left : r .state ≡ lost st = ap (λ (x : Reading). x .state) t in (
+            rw (number-is, called, z, lost-bytes (k .state) (omega (arith, p .long)), left),
+            rw (number-is, called, z) (record { sound = lost-soundly (k .state) (w .sound); room = w .room }),
+          )
+
+      inside : (byteTurn k event ≡ turn stereo st event) × Keeps (keptAfter k event)
+      inside = go (eqb (r .number) 0) refl
+        where
+          go : (z : Bool) → eqb (r .number) 0 ≡ z → (byteTurn k event ≡ turn stereo st event) × Keeps (keptAfter k event)
+          go true z = let v = accepted (eqb-true (r .number) 0 z) in (v .0 ∙ sym turn-is, v .1)
+          go false z = let v = not-accepted z in (v .0 ∙ sym turn-is, v .1)
+
+  one-call : (e : Event) → (byteTurn k e ≡ turn stereo st e) × Keeps (keptAfter k e)
+  one-call reporting = (reported-turn, reported-keeps)
+  one-call (payload b start end) = go (inBuffer start end (length b)) refl
+    where
+      go : (t : Bool) → inBuffer start end (length b) ≡ t
+          → (byteTurn k (payload b start end) ≡ turn stereo st (payload b start end)) × Keeps (keptAfter k (payload b start end))
+      go true e = inside b start end e
+      go false e = outside b start end e
+
+-- over bytes: where they stand for a sound state and an answer has room, a run of calls is a run of the machine from that state
+pub over-bytes : (k : Kept) (es : List Event) → soundBytes (k .state) ≡ true → 582 ≤ length (k .answer)
+    → byteCalls k es ≡ run stereo (stateAt (k .state)) es
+over-bytes k es h g = go k (record { sound = h; room = g }) es
+  where
+    go : (k : Kept) → Keeps k → (es : List Event) → byteCalls k es ≡ run stereo (stateAt (k .state)) es
+    go k w [] = refl
+    go k w (e ∷ es) =
+        let v = one-call k w e in
+        ap (λ (ts : List (Turn State Contents)). byteTurn k e ∷ ts) (go (keptAfter k e) (v .1) es)
+        ∙ sym (next (stateAt (k .state)) e (byteTurn k e) (sym (v .0)) es)

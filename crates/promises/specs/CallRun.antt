@@ -1,0 +1,67 @@
+-- Runs of calls: the reader by value, over a lent state, and for C over the bytes that a handset keeps.
+use Prim.Native.Nat.{ℕ}
+use mathlib.Core.List.{List, [], _∷_}
+use lib.Dec.{eqb}
+use lib.ListN.{length}
+use Rattle.bits.specs.Reader.{pick}
+use Rattle.bits.specs.Bits.{bitsFrom}
+use Rattle.stereo.specs.declared.State.{State}
+use Rattle.stereo.specs.declared.Contents.{Contents}
+use Rattle.stereo_reader.specs.Reading.{readFrom, missing}
+use Rattle.stereo_lent.specs.Lent.{answerOf}
+use Rattle.stereo_lent.specs.declared.Answer.{Answer}
+use Rattle.c_layout.specs.StateBytes.{stateAt}
+use Rattle.c_layout.specs.ContentsBytes.{contentsAt}
+use Rattle.c_stereo.specs.StateCalls.{missingNumber, missingAfter}
+use Rattle.c_stereo.specs.ReadStereo.{stereoNumber, stereoStateAfter, stereoAnswerAfter}
+use Rattle.runs.specs.Machine.{Event, payload, missing as reporting, Outcome, answered, refusal, reported, Turn}
+use Rattle.promises.specs.Run.{turnOf, reportOf}
+
+-- by value: the state that a call answers is handed to the next
+abbrev pub calls : State → List Event → List (Turn State Contents)
+calls st [] = []
+calls st (payload b start end ∷ es) = turnOf (readFrom st b start end) ∷ calls (readFrom st b start end .state) es
+calls st (reporting ∷ es) = reportOf (missing st) ∷ calls (missing st .state) es
+
+-- what an answer beside a lent state says
+abbrev pub outcomeOf : Answer → Outcome Contents
+outcomeOf a = pick (eqb (a .number) 0) (answered (a .contents) (a .bits)) (refusal (a .number))
+
+-- what the number of a report says
+abbrev pub reportOutcome : ℕ → Outcome Contents
+reportOutcome number = pick (eqb number 0) reported (refusal number)
+
+-- over a lent state: each call's answer, with the state that it leaves
+abbrev pub lentCalls : State → List Event → List (Turn State Contents)
+lentCalls st [] = []
+lentCalls st (payload b start end ∷ es) =
+    record { outcome = outcomeOf (answerOf (readFrom st b start end)); state = readFrom st b start end .state }
+    ∷ lentCalls (readFrom st b start end .state) es
+lentCalls st (reporting ∷ es) =
+    record { outcome = reportOutcome (missing st .number); state = missing st .state } ∷ lentCalls (missing st .state) es
+
+-- what a handset keeps: the bytes of a state and of an answer
+pub record Kept : Type 0 where
+  pub state : List ℕ
+  pub answer : List ℕ
+
+-- what it keeps after oarcradler_read_stereo and after oarcradler_report_missing
+abbrev pub keptAfter : Kept → Event → Kept
+keptAfter k (payload b start end) = record {
+  state = stereoStateAfter (k .state) b start end (length (k .answer));
+  answer = stereoAnswerAfter (k .state) b start end (k .answer);
+}
+keptAfter k reporting = record { state = missingAfter (k .state); answer = k .answer }
+
+-- what the number that comes back says, with what the kept answer then holds: the bits are its first word
+abbrev pub byteOutcome : Kept → Event → Outcome Contents
+byteOutcome k (payload b start end) =
+    pick (eqb (stereoNumber (k .state) b start end (length (k .answer))) 0)
+    (answered (contentsAt (keptAfter k (payload b start end) .answer)) (bitsFrom (keptAfter k (payload b start end) .answer) 0 32))
+    (refusal (stereoNumber (k .state) b start end (length (k .answer))))
+byteOutcome k reporting = reportOutcome (missingNumber (k .state))
+
+-- each call's outcome, with the state that the bytes stand for after it
+abbrev pub byteCalls : Kept → List Event → List (Turn State Contents)
+byteCalls k [] = []
+byteCalls k (e ∷ es) = record { outcome = byteOutcome k e; state = stateAt (keptAfter k e .state) } ∷ byteCalls (keptAfter k e) es
