@@ -1,8 +1,8 @@
 -- A run of calls is a run of the machine: of the reader by value, over a lent state, and for C over kept bytes.
 -- Assumes nothing.
-use Prim.Native.Nat.{ℕ, _*_, _<_, _≤_}
+use Prim.Native.Nat.{ℕ, zero, suc, _*_, _<_, _≤_}
 use mathlib.Core.Path.{_≡_, refl, sym, ap, _∙_}
-use mathlib.Core.List.{List, [], _∷_, _++_}
+use mathlib.Core.List.{List, [], _∷_, _++_, append-nil}
 use mathlib.Core.Bool.{Bool, true, false, _&&_, _||_}
 use native.Mathlib.Omega.{arith}
 use native.Mathlib.Decide.{decLe}
@@ -28,17 +28,21 @@ use Rattle.stereo_laws.proofs.SoundLaws.{carried-sound}
 use Rattle.stereo_writer.proofs.PayloadNumbers.{whole-not-0}
 use Rattle.stereo_reader.specs.Reading.{from, refusal, taken, readingOf, readBytes, readFrom, missing}
 use Rattle.stereo_reader.specs.declared.Reading.{Reading}
-use Rattle.stereo.proofs.StateLaws.{lost-sound}
+use Rattle.stereo.proofs.StateLaws.{fresh-sound, lost-sound}
 use Rattle.c_layout.specs.StateBytes.{stateHead, stateBytes, stateAt, isFlag, soundBytes}
 use Rattle.c_layout.specs.ContentsBytes.{contentsAt, answerBytes}
 use Rattle.c_layout.proofs.StateLaws.{SoundParts, sound-parts, sound-of, flagged}
 use Rattle.c_layout.proofs.BackLaws.{ContentsFit, StateFits, state-back, contents-back, bits-back}
-use Rattle.c_stereo.specs.StateCalls.{lostBytes}
+use Rattle.c_stereo.specs.StateCalls.{freshAfter, lostBytes}
 use Rattle.c_stereo.specs.ReadStereo.{stereoCallRefusal, stereoReading, stereoNumber, stereoStateAfter, stereoAnswerAfter}
-use Rattle.runs.specs.Machine.{Event, payload, missing as reporting, reported, Turn, turn, run}
+use Rattle.image.specs.Image.{bytesOf}
+use Rattle.image_outline.specs.Answers.{isEven, stereoIn, stateFrom, stateBefore}
+use Rattle.runs.specs.Machine.{Event, payload, missing as reporting, reported, Turn, turn, run, after}
 use Rattle.runs.proofs.TurnLaws.{origin-sound}
+use Rattle.runs.proofs.Demand.{after-append, run-append}
 use Rattle.promises.specs.Run.{stereo, turnOf, reportOf}
 use Rattle.promises.specs.CallRun.{calls, lentCalls, Kept, keptAfter, byteOutcome, byteCalls}
+use Rattle.promises.specs.CallRun.{oddPayload, oddPayloads, oddTurns}
 use Rattle.promises.proofs.OverBytes.{lost-bytes}
 use Rattle.promises.proofs.Turns.{steady, reads, reports}
 use Rattle.promises.proofs.Untouched.{bytes-touching}
@@ -265,3 +269,45 @@ over-bytes k es h g = go k (record { sound = h; room = g }) es
         let v = one-call k w e in
         ap (λ (ts : List (Turn State Contents)). byteTurn k e ∷ ts) (go (keptAfter k e) (v .1) es)
         ∙ sym (next (stateAt (k .state)) e (byteTurn k e) (sym (v .0)) es)
+
+-- after oarcradler_fresh_state it is a run from the fresh state
+pub fresh-bytes : (s : List ℕ) → 146 ≤ length s → (stateAt (freshAfter s) ≡ fresh) × (soundBytes (freshAfter s) ≡ true)
+fresh-bytes s h = rw (le-leb 146 (length s) h) (written-back s fresh fresh-fits, written-soundly s fresh h fresh-fits fresh-sound)
+
+pub from-fresh-bytes : (s answer : List ℕ) (es : List Event) → 146 ≤ length s → 582 ≤ length answer
+    → byteCalls (record { state = freshAfter s; answer = answer }) es ≡ run stereo fresh es
+from-fresh-bytes s answer es h g =
+    let f = fresh-bytes s h in
+    over-bytes (record { state = freshAfter s; answer = answer }) es (f .1) g ∙ ap (λ (st : State). run stereo st es) (f .0)
+
+-- the odd payloads of an image, whatever the even ones are: each is one turn from the state that the ones before it left
+module _ (s : List ℕ) where
+  odd-turn : (k : ℕ) (st : State) → stateBefore s k ≡ st → turnOf (stereoIn (stateBefore s k) (bytesOf s k)) ≡ turn stereo st (oddPayload s k)
+  unfolding stereoIn
+  odd-turn k st e = rw e (sym (reads st (bytesOf s k) 0 (length (bytesOf s k))))
+
+  odd-next : (k : ℕ) (es : List Event) (b : Bool) → stateBefore s k ≡ after stereo fresh es
+      → pick b (stateBefore s k) (stereoIn (stateBefore s k) (bytesOf s k) .state) ≡ after stereo fresh (es ++ pick b [] (oddPayload s k ∷ []))
+  odd-next k es true e = e ∙ ap (after stereo fresh) (sym (append-nil es))
+  odd-next k es false e =
+      ap (λ (t : Turn State Contents). t .state) (odd-turn k (after stereo fresh es) e)
+      ∙ sym (after-append stereo fresh es (oddPayload s k ∷ []))
+
+  odd-state : (k : ℕ) → stateBefore s k ≡ after stereo fresh (oddPayloads s k)
+  unfolding stateBefore stateFrom
+  odd-state zero = refl
+  odd-state (suc k) = odd-next k (oddPayloads s k) (isEven k) (odd-state k)
+
+  odd-more : (k : ℕ) (es : List Event) (b : Bool) → stateBefore s k ≡ after stereo fresh es
+      → run stereo fresh es ++ pick b [] (turnOf (stereoIn (stateBefore s k) (bytesOf s k)) ∷ [])
+      ≡ run stereo fresh (es ++ pick b [] (oddPayload s k ∷ []))
+  odd-more k es true e = append-nil (run stereo fresh es) ∙ ap (run stereo fresh) (sym (append-nil es))
+  odd-more k es false e =
+      ap (λ (t : Turn State Contents). run stereo fresh es ++ t ∷ []) (odd-turn k (after stereo fresh es) e)
+      ∙ sym (run-append stereo fresh es (oddPayload s k ∷ []))
+
+  pub odd-run : (k : ℕ) → oddTurns s k ≡ run stereo fresh (oddPayloads s k)
+  odd-run zero = refl
+  odd-run (suc k) =
+      ap (λ (ts : List (Turn State Contents)). ts ++ pick (isEven k) [] (turnOf (stereoIn (stateBefore s k) (bytesOf s k)) ∷ [])) (odd-run k)
+      ∙ odd-more k (oddPayloads s k) (isEven k) (odd-state k)

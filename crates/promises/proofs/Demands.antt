@@ -1,11 +1,11 @@
 -- The three demands as theorems, each by what is proved of the parts.
 -- Assumes nothing.
 use Prim.Native.Nat.{ℕ, _*_, _<_, _≤_}
-use mathlib.Core.Path.{_≡_}
+use mathlib.Core.Path.{_≡_, sym, ap, _∙_}
 use mathlib.Core.Logic.{_≢_}
 use mathlib.Core.List.{List, [], _∷_, _++_}
 use mathlib.Core.Bool.{true}
-use lib.ListN.{length, take}
+use lib.ListN.{length, take, drop}
 use Rattle.bits.specs.Bits.{bitAt}
 use Rattle.bits.specs.Reader.{got, refused}
 use Rattle.bits.specs.Payload.{inBuffer, range, whole}
@@ -13,7 +13,7 @@ use Rattle.bits.specs.Packed.{bytesFor, packed}
 use Rattle.channel.specs.Stream.{Stream, stream}
 use Rattle.channel.specs.Promise.{channel}
 use Rattle.channel.proofs.Demands.{only-the-range, cut-is-10}
-use Rattle.stereo.specs.State.{sound, lost}
+use Rattle.stereo.specs.State.{fresh, sound, lost}
 use Rattle.stereo.specs.Payload.{payload}
 use Rattle.stereo_reader.specs.Reading.{from, refusal, readBytes, readFrom}
 use Rattle.stereo.specs.declared.State.{State}
@@ -22,12 +22,15 @@ use Rattle.stereo_reader.proofs.ReadingLaws.{outside-counts-not, read-cut}
 use Rattle.stereo_writer.specs.Spelling.{spelling}
 use Rattle.stereo_writer.specs.Writing.{writing}
 use Rattle.stereo_writer.proofs.WritingLaws.{write-read, read-write}
-use Rattle.runs.specs.Machine.{Event, payload as given, missing, reported, origin, concluded, run, after, turn}
+use Rattle.runs.specs.Machine.{Event, payload as given, missing, reported, origin, concluded, Turn, run, after, turn}
 use Rattle.runs.specs.Damage.{Restarting, NoRestart, AllLost, Silent}
 use Rattle.runs.proofs.TurnLaws.{own-turn, own-report}
-use Rattle.runs.proofs.Demand.{restored, nothing-between}
+use Rattle.runs.proofs.Demand.{restored, nothing-between, run-from}
+use Rattle.c_stereo.specs.StateCalls.{freshAfter}
 use Rattle.promises.specs.Run.{stereo}
+use Rattle.promises.specs.CallRun.{calls, lentCalls, byteCalls, Faithful}
 use Rattle.promises.proofs.Turns.{steady}
+use Rattle.promises.proofs.CallRuns.{by-value, over-lent, from-fresh-bytes}
 
 -- demand 1, of a channel stream: no bit outside the range counts, and no cut goes unseen
 pub channel-outside : (buf other : List ℕ) (start end start′ end′ index lines factors books : ℕ)
@@ -83,3 +86,38 @@ module _ (before stretch spoilt between : List Event) (b : List ℕ) (start end 
       → NoRestart stereo (run stereo (after stereo (stereo .fresh) (before ++ stretch)) between)
       → Silent (run stereo (after stereo (stereo .fresh) (before ++ spoilt)) between)
   silent-till-then = nothing-between stereo steady before stretch spoilt between b start end rest
+
+-- the ways of calling are faithful: by value, over a lent state, and for C over the bytes that oarcradler_fresh_state filled
+pub calls-faithful : Faithful (calls fresh)
+calls-faithful = by-value fresh
+
+pub lent-faithful : Faithful (lentCalls fresh)
+lent-faithful es = over-lent fresh es ∙ by-value fresh es
+
+pub bytes-faithful : (s answer : List ℕ) → 146 ≤ length s → 582 ≤ length answer
+    → Faithful (byteCalls (record { state = freshAfter s; answer = answer }))
+bytes-faithful s answer h g es = from-fresh-bytes s answer es h g
+
+-- demand 3 of what is called, in any faithful way: from the restart on answers and states are those of the unspoilt run, and between a
+-- stretch that was wholly lost and that restart nothing is answered
+module _ (answers : List Event → List (Turn State Contents)) (same : Faithful answers) (before stretch spoilt between : List Event)
+    (b : List ℕ) (start end : ℕ) (rest : List Event) where
+  -- what is answered to events after others
+  after-others : (es fs : List Event) → drop (length es) (answers (es ++ fs)) ≡ run stereo (after stereo (stereo .fresh) es) fs
+  after-others es fs = ap (drop (length es)) (same (es ++ fs)) ∙ run-from stereo (stereo .fresh) es fs
+
+  pub answers-again : Restarting stereo (turn stereo (after stereo (stereo .fresh) (before ++ stretch ++ between)) (given b start end))
+      → drop (length (before ++ spoilt ++ between)) (answers (before ++ spoilt ++ between ++ (given b start end ∷ rest)))
+      ≡ drop (length (before ++ stretch ++ between)) (answers (before ++ stretch ++ between ++ (given b start end ∷ rest)))
+  answers-again w =
+      after-others (before ++ spoilt ++ between) (given b start end ∷ rest)
+      ∙ in-step-again before stretch spoilt between b start end rest w
+      ∙ sym (after-others (before ++ stretch ++ between) (given b start end ∷ rest))
+
+  pub answers-silent : spoilt ≢ [] → AllLost (drop (length before) (answers (before ++ spoilt)))
+      → NoRestart stereo (drop (length (before ++ stretch)) (answers (before ++ stretch ++ between)))
+      → Silent (drop (length (before ++ spoilt)) (answers (before ++ spoilt ++ between)))
+  answers-silent d q n =
+      rw (after-others (before ++ spoilt) between)
+      (silent-till-then before stretch spoilt between b start end rest d (rw (after-others before spoilt) at q)
+      (rw (after-others (before ++ stretch) between) at n))

@@ -1,4 +1,6 @@
 pub mod Turns
+pub mod Acceptance
+pub mod RoundTrips
 pub mod Demands
 pub mod Unique
 pub mod UniqueCalls

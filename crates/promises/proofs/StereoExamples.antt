@@ -2,7 +2,7 @@
 -- Assumes nothing.
 use Prim.Native.Nat.{ℕ}
 use mathlib.Core.Path.{_≡_, refl}
-use mathlib.Core.List.{List, [], _∷_}
+use mathlib.Core.List.{List, [], _∷_, map}
 use mathlib.Core.Bool.{true, false}
 use lib.IntN.{ℤ, pos}
 use Rattle.bits.specs.Reader.{got, refused}
@@ -22,6 +22,8 @@ use Rattle.stereo.specs.declared.State.{State}
 use Rattle.stereo.specs.declared.Contents.{Contents}
 use Rattle.stereo_reader.specs.declared.Reading.{Reading}
 use Rattle.stereo_reader.proofs.All.{all}
+use Rattle.runs.specs.Machine.{Event, payload, Outcome, answered, refusal as refusing, reported, Turn, run}
+use Rattle.promises.specs.Run.{stereo}
 
 -- 34 indices, a row across frequency or time, and a record
 abbrev row : ℕ → List ℤ → Row
@@ -147,8 +149,23 @@ unfolding all
 published = (refl, refl)
 
 -- a restart is accepted out of step, and brings the state into step: demand 3 is not said of nothing
-pub accepted-out-of-step : (readFrom (lost fresh) (196 ∷ 8 ∷ 0 ∷ 0 ∷ 0 ∷ []) 0 5 .number ≡ 0)
-    × (readFrom (lost fresh) (196 ∷ 8 ∷ 0 ∷ 0 ∷ 0 ∷ []) 0 5 .bits ≡ 35)
-    × (readFrom (lost fresh) (196 ∷ 8 ∷ 0 ∷ 0 ∷ 0 ∷ []) 0 5 .state .instep ≡ true)
+abbrev restarting : List ℕ
+restarting = 196 ∷ 8 ∷ 0 ∷ 0 ∷ 0 ∷ []
+
+pub accepted-out-of-step : (readFrom (lost fresh) restarting 0 5 .number ≡ 0) × (readFrom (lost fresh) restarting 0 5 .bits ≡ 35)
+    × (readFrom (lost fresh) restarting 0 5 .state .instep ≡ true)
 unfolding all
 accepted-out-of-step = (refl, refl, refl)
+
+-- a damaged run: a restart, torn; "keep what you had", which out of step is 35; the restart, whole; "keep what you had"
+abbrev spoken : Outcome Contents → ℕ
+spoken (answered c n) = 0
+spoken (refusing n) = n
+spoken reported = 0
+
+abbrev damaged : List Event
+damaged = payload (196 ∷ []) 0 1 ∷ payload (0 ∷ []) 0 1 ∷ payload restarting 0 5 ∷ payload (0 ∷ []) 0 1 ∷ []
+
+pub damaged-run : map (λ (t : Turn State Contents). spoken (t .outcome)) (run stereo fresh damaged) ≡ 10 ∷ 35 ∷ 0 ∷ 0 ∷ []
+unfolding all
+damaged-run = refl

@@ -1,6 +1,7 @@
--- Runs of calls: the reader by value, over a lent state, and for C over the bytes that a handset keeps.
-use Prim.Native.Nat.{ℕ}
-use mathlib.Core.List.{List, [], _∷_}
+-- Runs of calls: the reader by value, over a lent state, and for C over the bytes that a handset keeps; and the stereo payloads of an image.
+use Prim.Native.Nat.{ℕ, zero, suc}
+use mathlib.Core.Path.{_≡_}
+use mathlib.Core.List.{List, [], _∷_, _++_}
 use lib.Dec.{eqb}
 use lib.ListN.{length}
 use Rattle.bits.specs.Reader.{pick}
@@ -14,8 +15,10 @@ use Rattle.c_layout.specs.StateBytes.{stateAt}
 use Rattle.c_layout.specs.ContentsBytes.{contentsAt}
 use Rattle.c_stereo.specs.StateCalls.{missingNumber, missingAfter}
 use Rattle.c_stereo.specs.ReadStereo.{stereoNumber, stereoStateAfter, stereoAnswerAfter}
-use Rattle.runs.specs.Machine.{Event, payload, missing as reporting, Outcome, answered, refusal, reported, Turn}
-use Rattle.promises.specs.Run.{turnOf, reportOf}
+use Rattle.image.specs.Image.{bytesOf}
+use Rattle.image_outline.specs.Answers.{isEven, stereoIn, stateBefore}
+use Rattle.runs.specs.Machine.{Event, payload, missing as reporting, Outcome, answered, refusal, reported, Turn, run}
+use Rattle.promises.specs.Run.{stereo, turnOf, reportOf}
 
 -- by value: the state that a call answers is handed to the next
 abbrev pub calls : State → List Event → List (Turn State Contents)
@@ -65,3 +68,20 @@ byteOutcome k reporting = reportOutcome (missingNumber (k .state))
 abbrev pub byteCalls : Kept → List Event → List (Turn State Contents)
 byteCalls k [] = []
 byteCalls k (e ∷ es) = record { outcome = byteOutcome k e; state = stateAt (keptAfter k e .state) } ∷ byteCalls (keptAfter k e) es
+
+-- an image's odd payloads below the k-th, each a payload that fills its part
+abbrev pub oddPayload : List ℕ → ℕ → Event
+oddPayload s k = payload (bytesOf s k) 0 (length (bytesOf s k))
+
+abbrev pub oddPayloads : List ℕ → ℕ → List Event
+oddPayloads s zero = []
+oddPayloads s (suc k) = oddPayloads s k ++ pick (isEven k) [] (oddPayload s k ∷ [])
+
+-- what the image's outline is made of: their answers, each from the state before it
+abbrev pub oddTurns : List ℕ → ℕ → List (Turn State Contents)
+oddTurns s zero = []
+oddTurns s (suc k) = oddTurns s k ++ pick (isEven k) [] (turnOf (stereoIn (stateBefore s k) (bytesOf s k)) ∷ [])
+
+-- a way of calling is faithful where its answers from the fresh state on are the machine's run
+abbrev pub Faithful : (List Event → List (Turn State Contents)) → Type 0
+Faithful answers = (es : List Event) → answers es ≡ run stereo (stereo .fresh) es

@@ -1,4 +1,5 @@
 pub mod Run
+pub mod Allowed
 pub mod CallRun
 pub mod Bench
 pub mod Refusals

@@ -1,18 +1,37 @@
 -- After any damage to a run, from the first intact restart on outcomes and states equal those of the unspoilt run; and
 -- between a stretch that was wholly refused or reported missing and that restart nothing is answered.
 -- Assumes nothing.
-use Prim.Native.Nat.{ℕ}
-use mathlib.Core.Path.{_≡_, refl, _∙_, ap}
+use Prim.Native.Nat.{ℕ, suc}
+use mathlib.Core.Path.{_≡_, refl, sym, _∙_, ap}
 use mathlib.Core.List.{List, [], _∷_, _++_}
 use mathlib.Core.Bool.{true, false}
 use mathlib.Core.Logic.{_≢_}
+use native.Mathlib.Nat.{add-zero}
+use lib.ListN.{length, drop}
+use lib.Seq.{drop-append-add}
 use Rattle.runs.specs.Machine.{Event, payload, Machine, Turn, turn, run, after}
 use Rattle.runs.specs.Damage.{Steady, Restarting, NoRestart, Silent, AllLost}
 use Rattle.runs.proofs.TurnLaws.{turn-sound, after-sound, restart-turn, turn-lost, quiet-turn}
 
-after-append : {S C : Type 0} (M : Machine S C) (st : S) (es fs : List Event) → after M st (es ++ fs) ≡ after M (after M st es) fs
+-- events joined: a run goes on from the state that the first ones left
+pub after-append : {S C : Type 0} (M : Machine S C) (st : S) (es fs : List Event) → after M st (es ++ fs) ≡ after M (after M st es) fs
 after-append M st [] fs = refl
 after-append M st (e ∷ es) fs = after-append M (turn M st e .state) es fs
+
+pub run-append : {S C : Type 0} (M : Machine S C) (st : S) (es fs : List Event) → run M st (es ++ fs) ≡ run M st es ++ run M (after M st es) fs
+run-append M st [] fs = refl
+run-append {S} {C} M st (e ∷ es) fs = ap (λ (ts : List (Turn S C)). turn M st e ∷ ts) (run-append M (turn M st e .state) es fs)
+
+run-long : {S C : Type 0} (M : Machine S C) (st : S) (es : List Event) → length (run M st es) ≡ length es
+run-long M st [] = refl
+run-long M st (e ∷ es) = ap suc (run-long M (turn M st e .state) es)
+
+-- what a run comes to after its first events
+pub run-from : {S C : Type 0} (M : Machine S C) (st : S) (es fs : List Event) → drop (length es) (run M st (es ++ fs)) ≡ run M (after M st es) fs
+run-from {S} {C} M st es fs =
+    ap (drop (length es)) (run-append M st es fs)
+    ∙ ap (λ (n : ℕ). drop n (run M st es ++ run M (after M st es) fs)) (sym (run-long M st es) ∙ sym (add-zero (length (run M st es))))
+    ∙ drop-append-add (run M st es) (run M (after M st es) fs) 0
 
 module _ {S C : Type 0} (M : Machine S C) (law : Steady M) where
   -- from a restart on all is the same, whatever was before
