@@ -6,10 +6,9 @@ use mathlib.Core.Path.{_≡_, refl}
 use mathlib.Core.List.{List, [], _∷_}
 use lib.IntN.{ℤ, pos, negsuc}
 use Rattle.bits.specs.Lists.{padded}
-use Rattle.bits.specs.Reader.{got, refused}
+use Rattle.bits.specs.Reader.{refused}
 use Rattle.bits.specs.Payload.{whole}
-use Rattle.channel_lines.specs.Grouping.{groupsAfter, inEight}
-use Rattle.channel_side.specs.Sections.{sectionLength}
+use Rattle.channel_lines.specs.Grouping.{inEight}
 use Rattle.channel.specs.Stream.{stream}
 use Rattle.channel.specs.Promise.{readingOf, linesAfter, factorsAfter, booksAfter}
 use Rattle.channel.specs.declared.Reading.{Reading}
@@ -22,26 +21,6 @@ Gives index bytes reading books factors lines =
     × (booksAfter (whole (stream index) bytes) [] ≡ padded 120 0 books)
     × (factorsAfter (whole (stream index) bytes) [] ≡ padded 120 0 factors)
     × (linesAfter (whole (stream index) bytes) [] ≡ padded 1024 (pos 0) lines)
-
--- grouping 0110000
-grouping : groupsAfter 8 48 ≡ 1 ∷ 3 ∷ 1 ∷ 1 ∷ 1 ∷ 1 ∷ []
-unfolding all
-grouping = refl
-
--- long increments 31, 0
-increments-31 : sectionLength 5 49 (248 ∷ 0 ∷ []) 0 10 ≡ got 31 10
-unfolding all
-increments-31 = refl
-
--- gain 255, difference +1
-gain-255 : whole (stream 3) (255 ∷ 0 ∷ 66 ∷ 26 ∷ []) ≡ refused 24 28
-unfolding all
-gain-255 = refl
-
--- gain 0, difference -1
-gain-0 : whole (stream 3) (0 ∷ 0 ∷ 66 ∷ 24 ∷ []) ≡ refused 24 28
-unfolding all
-gain-0 = refl
 
 -- max_sfb 49 stands at index 3: the sections are read, and run out
 max-sfb-49 : whole (stream 3) (0 ∷ 12 ∷ 64 ∷ []) ≡ refused 10 23

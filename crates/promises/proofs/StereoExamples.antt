@@ -1,28 +1,28 @@
--- The bench examples of the rules, the faults a bench has shown, and payloads of a published run, computed.
+-- The faults a bench has shown, payloads of a published run, and a damaged run, computed.
 -- Assumes nothing.
 use Prim.Native.Nat.{ℕ}
 use mathlib.Core.Path.{_≡_, refl}
 use mathlib.Core.List.{List, [], _∷_, map}
 use mathlib.Core.Bool.{true, false}
 use lib.IntN.{ℤ, pos}
-use Rattle.bits.specs.Reader.{got, refused}
+use Rattle.bits.specs.Reader.{refused}
 use Rattle.stereo_indices.specs.Record.{none, recordOf}
 use Rattle.bits.specs.Lists.{padded}
 use Rattle.stereo_indices.specs.Indices.{index}
 use Rattle.stereo_indices.specs.Rows.{noRows, noRow}
-use Rattle.stereo_indices.specs.declared.Kind.the-variants.{Iid, Icc, Ipd}
+use Rattle.stereo_indices.specs.declared.Kind.the-variants.{Icc}
 use Rattle.stereo_indices.specs.declared.Record.{Record}
 use Rattle.stereo_indices.specs.declared.Row.{Row}
 use Rattle.stereo.specs.State.{fresh, lost}
-use Rattle.stereo.specs.Frame.{noFrame, noBorders}
-use Rattle.stereo.specs.Extension.{noPart, noExtension}
+use Rattle.stereo.specs.Frame.{noBorders}
+use Rattle.stereo.specs.Extension.{noExtension}
 use Rattle.stereo.specs.Payload.{noContents}
 use Rattle.stereo_reader.specs.Reading.{refusal, readFrom}
 use Rattle.stereo.specs.declared.State.{State}
 use Rattle.stereo.specs.declared.Contents.{Contents}
-use Rattle.stereo_reader.specs.declared.Reading.{Reading}
 use Rattle.stereo_reader.proofs.All.{all}
 use Rattle.runs.specs.Machine.{Event, payload, Outcome, answered, refusal as refusing, reported, Turn, run}
+use Rattle.promises.specs.Bench.{accepted}
 use Rattle.promises.specs.Run.{stereo}
 
 -- 34 indices, a row across frequency or time, and a record
@@ -37,8 +37,7 @@ abbrev withIcc : ℕ → Record → State
 withIcc mode h = record {
   setup = record { iid = false; icc = true; ext = false; iidmode = 7; iccmode = mode };
   iid = none;
-  icc =
-      h;
+  icc = h;
   ipd = none;
   opd = none;
   instep = true;
@@ -49,78 +48,24 @@ abbrev withIid : ℕ → Record → State
 withIid mode h = record {
   setup = record { iid = true; icc = false; ext = false; iidmode = mode; iccmode = 7 };
   iid = h;
-  icc =
-      none;
+  icc = none;
   ipd = none;
   opd = none;
   instep = true;
 }
-
--- the extension enabled, and nothing else
-abbrev withExtension : State
-withExtension = record {
-  setup = record { iid = false; icc = false; ext = true; iidmode = 7; iccmode = 7 };
-  iid = none;
-  icc =
-      none;
-  ipd = none;
-  opd = none;
-  instep = true;
-}
-
-abbrev accepted : ℕ → Contents → State → Reading
-accepted bits c st = record { number = 0; bits = bits; contents = c; state = st }
 
 abbrev five : List ℤ
 five = pos 5 ∷ pos 5 ∷ pos 5 ∷ pos 5 ∷ pos 5 ∷ pos 5 ∷ pos 5 ∷ pos 5 ∷ pos 5 ∷ pos 5 ∷ pos 5 ∷ []
 
--- fresh, 00: no envelopes, 4 bits
-fresh-00 : readFrom fresh (0 ∷ []) 0 1 ≡ accepted 4 noContents fresh
+-- out of step, 00 00: 12 still
+lost-0000 : readFrom (lost fresh) (0 ∷ 0 ∷ []) 0 2 ≡ refusal 12 (lost fresh)
 unfolding all
-fresh-00 = refl
+lost-0000 = refl
 
--- 00 00: 12
-fresh-0000 : readFrom fresh (0 ∷ 0 ∷ []) 0 2 ≡ refusal 12 (lost fresh)
+-- coherence is not taken modulo 8
+coherence-7 : index Icc 0 1 (padded 34 (pos 0) (pos 7 ∷ [])) [] (128 ∷ []) 0 8 ≡ refused 32 0
 unfolding all
-fresh-0000 = refl
-
--- out of step, 00: 35; and 00 00: 12 still
-lost-00 : (readFrom (lost fresh) (0 ∷ []) 0 1 ≡ refusal 35 (lost fresh))
-    × (readFrom (lost fresh) (0 ∷ 0 ∷ []) 0 2 ≡ refusal 12 (lost fresh))
-unfolding all
-lost-00 = (refl, refl)
-
--- empty: 10
-empty-10 : readFrom fresh [] 0 0 ≡ refusal 10 (lost fresh)
-unfolding all
-empty-10 = refl
-
--- bits 11110 first: 13 (IID mode 6)
-mode-6 : readFrom fresh (240 ∷ []) 0 1 ≡ refusal 13 (lost fresh)
-unfolding all
-mode-6 = refl
-
--- fresh, 90 00: 11 bits used, extension empty
-fresh-9000 : readFrom fresh (144 ∷ 0 ∷ []) 0 2 ≡ accepted 11 (record {
-  header = record { there = 1; iid = 0; iidmode = 0; icc = 0; iccmode = 0; ext = 1 };
-  frame = noFrame;
-  iid = noRows;
-  icc = noRows;
-  extension = record { there = 1; size = 0; esc = 0; part = noPart };
-}) withExtension
-unfolding all
-fresh-9000 = refl
-
--- phase 6, difference 5: 3
-phase-6 : index Ipd 0 1 (padded 34 (pos 0) (pos 6 ∷ [])) [] (0 ∷ []) 0 8 ≡ got (pos 3) 4
-unfolding all
-phase-6 = refl
-
--- IID mode 0, index 7, difference +1: 32; and coherence is not taken modulo 8
-index-7 : (index Iid 0 1 (padded 34 (pos 0) (pos 7 ∷ [])) [] (192 ∷ []) 0 8 ≡ refused 32 0)
-    × (index Icc 0 1 (padded 34 (pos 0) (pos 7 ∷ [])) [] (128 ∷ []) 0 8 ≡ refused 32 0)
-unfolding all
-index-7 = (refl, refl)
+coherence-7 = refl
 
 -- time coding where the new mode came in an earlier payload with no envelopes: 31
 time-31 : readFrom (withIid 1 (kept 0 (pos 7 ∷ []))) (24 ∷ []) 0 1 ≡ refusal 31 (lost (withIid 1 (kept 0 (pos 7 ∷ []))))

@@ -1,66 +1,89 @@
--- The bench examples that are proved, one a line: what is computed, and what the rules say.
+-- The bench examples that are proved: one table of statements, each beside the words of the rules.
 use Prim.Native.Nat.{ℕ}
+use mathlib.Core.Path.{_≡_}
 use mathlib.Core.List.{List, [], _∷_}
-use lib.IntN.{ℤ, pos, natAbs}
-use Rattle.bits.specs.Reader.{Answer, got, refused}
+use mathlib.Core.Bool.{true, false}
+use mathlib.Core.Logic.{_≢_}
+use lib.IntN.{pos}
+use Rattle.bits.specs.Bits.{bitsFrom}
+use Rattle.bits.specs.Reader.{got, refused}
 use Rattle.bits.specs.Payload.{whole}
 use Rattle.words.specs.Escape.{escape}
 use Rattle.channel_lines.specs.Grouping.{groupsAfter}
 use Rattle.channel_side.specs.Sections.{sectionLength}
-use Rattle.channel.specs.Stream.{Stream, stream}
+use Rattle.channel.specs.Stream.{stream}
+use Rattle.stereo_indices.specs.Record.{none}
+use Rattle.stereo_indices.specs.Rows.{noRows}
 use Rattle.stereo_indices.specs.Indices.{index}
 use Rattle.stereo_indices.specs.declared.Kind.the-variants.{Iid, Ipd}
 use Rattle.stereo.specs.State.{fresh, lost}
-use Rattle.stereo_reader.specs.Reading.{readFrom}
+use Rattle.stereo.specs.Frame.{noFrame}
+use Rattle.stereo.specs.Extension.{noPart}
+use Rattle.stereo.specs.Payload.{noContents}
+use Rattle.stereo.specs.declared.State.{State}
+use Rattle.stereo.specs.declared.Contents.{Contents}
+use Rattle.stereo_reader.specs.Reading.{refusal, readBytes, readFrom}
 use Rattle.stereo_reader.specs.declared.Reading.{Reading}
 
-pub record Example : Type 0 where
-  pub shown : List ℕ
-  pub wanted : List ℕ
+abbrev pub accepted : ℕ → Contents → State → Reading
+accepted bits c st = record { number = 0; bits = bits; contents = c; state = st }
 
--- a value; or the number of a refusal alone
-abbrev one : Answer ℕ → List ℕ
-one (got v next) = 0 ∷ v ∷ []
-one (refused n place) = n ∷ []
+-- a header with the extension enabled, no envelopes, and an extension of size 0
+abbrev emptyExtension : Contents
+emptyExtension = record {
+  header = record { there = 1; iid = 0; iidmode = 0; icc = 0; iccmode = 0; ext = 1 };
+  frame = noFrame;
+  iid = noRows;
+  icc = noRows;
+  extension = record { there = 1; size = 0; esc = 0; part = noPart };
+}
 
-abbrev signed : Answer ℤ → List ℕ
-signed (got v next) = 0 ∷ natAbs v ∷ []
-signed (refused n place) = n ∷ []
+-- the extension enabled, and nothing else
+abbrev withExtension : State
+withExtension = record {
+  setup = record { iid = false; icc = false; ext = true; iidmode = 7; iccmode = 7 };
+  iid = none;
+  icc = none;
+  ipd = none;
+  opd = none;
+  instep = true;
+}
 
-abbrev refusedWith : Answer Stream → List ℕ
-refusedWith (got x next) = 0 ∷ []
-refusedWith (refused n place) = n ∷ []
-
--- the refusal, the bits used, the envelopes, and whether there is an extension, and its size
-abbrev told : Reading → List ℕ
-told r = r .number ∷ r .bits ∷ r .contents .frame .envelopes ∷ r .contents .extension .there ∷ r .contents .extension .size ∷ []
-
-abbrev line : List ℕ → List ℕ → Example
-line shown wanted = record { shown = shown; wanted = wanted }
-
-unfoldable pub bench : List Example
+unfoldable pub bench : List (Type 0)
 bench =
-    line (told (readFrom fresh (0 ∷ []) 0 1)) (0 ∷ 4 ∷ 0 ∷ 0 ∷ 0 ∷ [])
-    ∷ line (told (readFrom fresh (0 ∷ 0 ∷ []) 0 2)) (12 ∷ 0 ∷ 0 ∷ 0 ∷ 0 ∷ [])
-    ∷ line (told (readFrom (lost fresh) (0 ∷ []) 0 1)) (35 ∷ 0 ∷ 0 ∷ 0 ∷ 0 ∷ [])
-    ∷ line (told (readFrom fresh [] 0 0)) (10 ∷ 0 ∷ 0 ∷ 0 ∷ 0 ∷ [])
-    ∷ line (told (readFrom fresh (240 ∷ []) 0 1)) (13 ∷ 0 ∷ 0 ∷ 0 ∷ 0 ∷ [])
-    ∷ line (told (readFrom fresh (144 ∷ 0 ∷ []) 0 2)) (0 ∷ 11 ∷ 0 ∷ 1 ∷ 0 ∷ [])
-    ∷ line (one (escape (0 ∷ []) 0 5)) (0 ∷ 16 ∷ [])
-    ∷ line (one (escape (255 ∷ 127 ∷ 248 ∷ []) 0 21)) (0 ∷ 8191 ∷ [])
-    ∷ line (one (escape (255 ∷ 128 ∷ []) 0 9)) (26 ∷ [])
-    ∷ line (groupsAfter 8 48) (1 ∷ 3 ∷ 1 ∷ 1 ∷ 1 ∷ 1 ∷ [])
-    ∷ line (one (sectionLength 5 49 (248 ∷ 0 ∷ []) 0 10)) (0 ∷ 31 ∷ [])
-    ∷ line (refusedWith (whole (stream 3) (255 ∷ 0 ∷ 66 ∷ 26 ∷ []))) (24 ∷ [])
-    ∷ line (refusedWith (whole (stream 3) (0 ∷ 0 ∷ 66 ∷ 24 ∷ []))) (24 ∷ [])
-    ∷ line (signed (index Ipd 0 1 (pos 6 ∷ []) [] (0 ∷ []) 0 8)) (0 ∷ 3 ∷ [])
-    ∷ line (signed (index Iid 0 1 (pos 7 ∷ []) [] (192 ∷ []) 0 8)) (32 ∷ [])
+    -- fresh, stereo 00: no envelopes, 4 bits
+    (readFrom fresh (0 ∷ []) 0 1 ≡ accepted 4 noContents fresh)
+    -- 00 00: 12
+    ∷ (readFrom fresh (0 ∷ 0 ∷ []) 0 2 ≡ refusal 12 (lost fresh))
+    -- out of step, 00: 35
+    ∷ (readFrom (lost fresh) (0 ∷ []) 0 1 ≡ refusal 35 (lost fresh))
+    -- empty: 10
+    ∷ (readFrom fresh [] 0 0 ≡ refusal 10 (lost fresh))
+    -- bits 11110 first: 13 (IID mode 6), whatever follows and from every state
+    ∷ ((st : State) (s : List ℕ) → s ≢ [] → bitsFrom s 0 5 ≡ 30 → readBytes st s ≡ refusal 13 (lost st))
+    -- fresh, 90 00: 11 bits used, extension empty
+    ∷ (readFrom fresh (144 ∷ 0 ∷ []) 0 2 ≡ accepted 11 emptyExtension withExtension)
+    -- escape 00000: 16
+    ∷ (escape (0 ∷ []) 0 5 ≡ got 16 5)
+    -- eight ones, 0, twelve ones: 8191
+    ∷ (escape (255 ∷ 127 ∷ 248 ∷ []) 0 21 ≡ got 8191 21)
+    -- nine ones: 26
+    ∷ (escape (255 ∷ 128 ∷ []) 0 9 ≡ refused 26 0)
+    -- grouping 0110000: groups of 1, 3, 1, 1, 1, 1
+    ∷ (groupsAfter 8 48 ≡ 1 ∷ 3 ∷ 1 ∷ 1 ∷ 1 ∷ 1 ∷ [])
+    -- long increments 31, 0: length 31
+    ∷ (sectionLength 5 49 (248 ∷ 0 ∷ []) 0 10 ≡ got 31 10)
+    -- gain 255, difference +1: 24
+    ∷ (whole (stream 3) (255 ∷ 0 ∷ 66 ∷ 26 ∷ []) ≡ refused 24 28)
+    -- gain 0, difference -1: 24
+    ∷ (whole (stream 3) (0 ∷ 0 ∷ 66 ∷ 24 ∷ []) ≡ refused 24 28)
+    -- phase 6, difference 5: 3
+    ∷ (index Ipd 0 1 (pos 6 ∷ []) [] (0 ∷ []) 0 8 ≡ got (pos 3) 4)
+    -- IID mode 0, index 7, difference +1: 32
+    ∷ (index Iid 0 1 (pos 7 ∷ []) [] (192 ∷ []) 0 8 ≡ refused 32 0)
     ∷ []
 
-abbrev pub allShown : List Example → List (List ℕ)
-allShown [] = []
-allShown (e ∷ es) = e .shown ∷ allShown es
-
-abbrev pub allWanted : List Example → List (List ℕ)
-allWanted [] = []
-allWanted (e ∷ es) = e .wanted ∷ allWanted es
+-- every statement of a table
+abbrev pub AllHold : List (Type 0) → Type 0
+AllHold [] = Unit
+AllHold (p ∷ ps) = p × AllHold ps
