@@ -21,6 +21,11 @@ ended-got a b s at end next e =
       | no d ↦ never (rw (lt-leb (end - at) 7 (omega arith)) at e)
     ]
 
+-- the bits of the first bytes are theirs
+pub bit-take : (s : List ℕ) (k i : ℕ) → i < 8 * k → bitAt (take k s) i ≡ bitAt s i
+unfolding bitAt
+bit-take s k i h = let l : i / 8 < k = omega arith in rw (getD-take)
+
 module _ {A : Type 0} (r : Reader A) where
   -- what an accepted payload was read to
   pub whole-got : (s : List ℕ) (next : ℕ) (a : A) → whole r s ≡ got a next → (r s 0 (8 * length s) ≡ got a next) × (8 * length s - next ≤ 7)
@@ -39,10 +44,6 @@ module _ {A : Type 0} (r : Reader A) where
   pub whole-refused : (s : List ℕ) (n p : ℕ) → r s 0 (8 * length s) ≡ refused n p → whole r s ≡ refused n p
   unfolding whole
   whole-refused s n p e = rw e
-
-  pub bit-take : (s : List ℕ) (k i : ℕ) → i < 8 * k → bitAt (take k s) i ≡ bitAt s i
-  unfolding bitAt
-  bit-take s k i h = let l : i / 8 < k = omega arith in rw (getD-take)
 
   -- no cut goes unseen
   pub whole-cut : Lawful r → (s : List ℕ) (next : ℕ) (a : A) (k : ℕ) → whole r s ≡ got a next → 8 * k < next

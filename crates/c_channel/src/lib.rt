@@ -4,9 +4,8 @@ ghost use Prim.Native.Nat.{_≤_};
 ghost use lib.Dec.{ltb};
 ghost use lib.ListN.{length};
 ghost use Rattle.bits.specs.Reader.{pick};
-ghost use Rattle.channel.specs.Promise.{readingOf, linesAfter, factorsAfter, booksAfter};
 ghost use Rattle.bits.specs.Bytes.{over};
-ghost use Rattle.c_channel.specs.ReadChannel.{channelBytes, channelCall, channelAnswerAfter};
+ghost use Rattle.c_channel.specs.ReadChannel.{channelBytes, ReadChannelPromise};
 use bits::bytes;
 use bits::calls::call_refusal;
 use channel::Reading;
@@ -55,17 +54,9 @@ pub extern "C" fn oarcradler_read_channel(
     books: &mut [u8],
     answer: &mut [u8],
 ) -> u32
-    ensures { λ r. ⌜ r ≡ readingOf (channelCall (now (buf .entry)) start end index (length (now (lines .entry)))
-        (length (now (factors .entry))) (length (now (books .entry))) (length (now (answer .entry)))) .number ⌝ }
-    ensures { λ r. ⌜ now (lines .exit) ≡ linesAfter (channelCall (now (buf .entry)) start end index (length (now (lines .entry)))
-        (length (now (factors .entry))) (length (now (books .entry))) (length (now (answer .entry)))) (now (lines .entry)) ⌝ }
-    ensures { λ r. ⌜ now (factors .exit) ≡ factorsAfter (channelCall (now (buf .entry)) start end index (length (now (lines .entry)))
-        (length (now (factors .entry))) (length (now (books .entry))) (length (now (answer .entry)))) (now (factors .entry)) ⌝ }
-    ensures { λ r. ⌜ now (books .exit) ≡ booksAfter (channelCall (now (buf .entry)) start end index (length (now (lines .entry)))
-        (length (now (factors .entry))) (length (now (books .entry))) (length (now (answer .entry)))) (now (books .entry)) ⌝ }
-    ensures { λ r. ⌜ now (answer .exit) ≡ channelAnswerAfter (channelCall (now (buf .entry)) start end index
-        (length (now (lines .entry))) (length (now (factors .entry))) (length (now (books .entry))) (length (now (answer .entry))))
-        (now (answer .entry)) ⌝ }
+    ensures { λ r. ⌜ ReadChannelPromise (now (buf .entry)) start end index
+        (now (lines .entry)) (now (factors .entry)) (now (books .entry)) (now (answer .entry))
+        r (now (lines .exit)) (now (factors .exit)) (now (books .exit)) (now (answer .exit)) ⌝ }
 {
     let number = call_refusal(buf.len(), start as usize, end as usize, 17, answer.len());
     if number != 0 {

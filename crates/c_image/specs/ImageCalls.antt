@@ -1,5 +1,6 @@
 -- An image's header, and the part that a payload is, each answered as two words.
 use Prim.Native.Nat.{ℕ}
+use mathlib.Core.Path.{_≡_}
 use mathlib.Core.List.{List, _++_}
 use lib.Dec.{leb}
 use lib.ListN.{length}
@@ -25,3 +26,10 @@ partNumber image k room = pick (leb 8 room) (partOf image k .number) 2
 unfoldable pub partAnswerAfter : List ℕ → ℕ → List ℕ → List ℕ
 partAnswerAfter image k answer =
     answered (partNumber image k (length answer)) (wordOf (partOf image k .start) ++ wordOf (partOf image k .end)) answer
+
+-- what is promised of both: the number that comes back, and the lent answer afterwards
+abbrev pub ReadHeaderPromise : List ℕ → List ℕ → ℕ → List ℕ → Type 0
+ReadHeaderPromise image answer r after = (r ≡ imageNumber image (length answer)) × (after ≡ imageAnswerAfter image answer)
+
+abbrev pub FindPartPromise : List ℕ → ℕ → List ℕ → ℕ → List ℕ → Type 0
+FindPartPromise image k answer r after = (r ≡ partNumber image k (length answer)) × (after ≡ partAnswerAfter image k answer)

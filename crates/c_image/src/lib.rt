@@ -4,7 +4,7 @@ ghost use mathlib.Core.List.{_++_};
 ghost use Prim.Native.Nat.{_≤_};
 ghost use lib.ListN.{length};
 ghost use Rattle.bits.specs.Bytes.{wordOf, over};
-ghost use Rattle.c_image.specs.ImageCalls.{imageNumber, imageAnswerAfter, partNumber, partAnswerAfter};
+ghost use Rattle.c_image.specs.ImageCalls.{ReadHeaderPromise, FindPartPromise};
 use bits::bytes;
 
 // Two words are put at the front of a lent answer.
@@ -21,8 +21,7 @@ fn put_words(answer: &mut [u8], first: usize, second: usize)
 // The header of an image: a lent answer gets the payload count and the sampling index.
 #[no_mangle]
 pub extern "C" fn oarcradler_read_header(image: &[u8], answer: &mut [u8]) -> u32
-    ensures { λ r. ⌜ r ≡ imageNumber (now (image .entry)) (length (now (answer .entry))) ⌝ }
-    ensures { λ r. ⌜ now (answer .exit) ≡ imageAnswerAfter (now (image .entry)) (now (answer .entry)) ⌝ }
+    ensures { λ r. ⌜ ReadHeaderPromise (now (image .entry)) (now (answer .entry)) r (now (answer .exit)) ⌝ }
 {
     if answer.len() < 8 {
         return 2;
@@ -38,8 +37,7 @@ pub extern "C" fn oarcradler_read_header(image: &[u8], answer: &mut [u8]) -> u32
 // The part of an image that its k-th payload is: a lent answer gets where it starts and where it ends.
 #[no_mangle]
 pub extern "C" fn oarcradler_find_part(image: &[u8], k: u32, answer: &mut [u8]) -> u32
-    ensures { λ r. ⌜ r ≡ partNumber (now (image .entry)) k (length (now (answer .entry))) ⌝ }
-    ensures { λ r. ⌜ now (answer .exit) ≡ partAnswerAfter (now (image .entry)) k (now (answer .entry)) ⌝ }
+    ensures { λ r. ⌜ FindPartPromise (now (image .entry)) k (now (answer .entry)) r (now (answer .exit)) ⌝ }
 {
     if answer.len() < 8 {
         return 2;

@@ -1,5 +1,6 @@
 -- A stereo payload in a range of a buffer, read from the state that bytes stand for.
 use Prim.Native.Nat.{ℕ}
+use mathlib.Core.Path.{_≡_}
 use mathlib.Core.List.{List}
 use lib.Dec.{eqb}
 use lib.ListN.{length}
@@ -41,3 +42,9 @@ unfoldable pub stereoAnswerAfter : List ℕ → List ℕ → ℕ → ℕ → Lis
 stereoAnswerAfter s buf start end answer =
     answered (stereoNumber s buf start end (length answer))
     (answerBytes (stereoReading s buf start end .bits) (stereoReading s buf start end .contents)) answer
+
+-- everything that a call gives: the number that comes back, and the state and the answer afterwards
+abbrev pub ReadStereoPromise : List ℕ → List ℕ → ℕ → ℕ → List ℕ → ℕ → List ℕ → List ℕ → Type 0
+ReadStereoPromise s buf start end answer r s′ answer′ =
+    (r ≡ stereoNumber s buf start end (length answer))
+    × ((s′ ≡ stereoStateAfter s buf start end (length answer)) × (answer′ ≡ stereoAnswerAfter s buf start end answer))

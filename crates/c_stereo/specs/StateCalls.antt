@@ -1,5 +1,6 @@
 -- A fresh state, and a payload reported missing.
 use Prim.Native.Nat.{ℕ}
+use mathlib.Core.Path.{_≡_}
 use mathlib.Core.List.{List}
 use lib.Dec.{leb}
 use lib.ListN.{length, set}
@@ -25,3 +26,10 @@ missingNumber s = pick (soundBytes s) 0 4
 
 abbrev pub missingAfter : List ℕ → List ℕ
 missingAfter s = pick (soundBytes s) (lostBytes s) s
+
+-- what is promised of both: the number that comes back, and the lent state afterwards
+abbrev pub FreshStatePromise : List ℕ → ℕ → List ℕ → Type 0
+FreshStatePromise s r after = (r ≡ freshNumber s) × (after ≡ freshAfter s)
+
+abbrev pub ReportMissingPromise : List ℕ → ℕ → List ℕ → Type 0
+ReportMissingPromise s r after = (r ≡ missingNumber s) × (after ≡ missingAfter s)

@@ -1,8 +1,7 @@
 // The stereo state and a stereo payload, answered in bytes.
 ghost use mathlib.Core.Path.{_≡_};
-ghost use lib.ListN.{length};
-ghost use Rattle.c_stereo.specs.StateCalls.{freshNumber, freshAfter, missingNumber, missingAfter};
-ghost use Rattle.c_stereo.specs.ReadStereo.{stereoCallRefusal, stereoNumber, stereoStateAfter, stereoAnswerAfter};
+ghost use Rattle.c_stereo.specs.StateCalls.{FreshStatePromise, ReportMissingPromise};
+ghost use Rattle.c_stereo.specs.ReadStereo.{stereoCallRefusal, ReadStereoPromise};
 use bits::calls::call_refusal;
 use c_layout::answers;
 use c_layout::states;
@@ -10,7 +9,7 @@ use c_layout::states;
 // The state before any payload is written to the front of a lent state.
 #[no_mangle]
 pub extern "C" fn oarcradler_fresh_state(state: &mut [u8]) -> u32
-    ensures { λ r. ⌜ (r ≡ freshNumber (now (state .entry))) × (now (state .exit) ≡ freshAfter (now (state .entry))) ⌝ }
+    ensures { λ r. ⌜ FreshStatePromise (now (state .entry)) r (now (state .exit)) ⌝ }
 {
     if state.len() < 146 {
         return 2;
@@ -22,7 +21,7 @@ pub extern "C" fn oarcradler_fresh_state(state: &mut [u8]) -> u32
 // A payload is reported missing: the mark of a lent state is set out of step.
 #[no_mangle]
 pub extern "C" fn oarcradler_report_missing(state: &mut [u8]) -> u32
-    ensures { λ r. ⌜ (r ≡ missingNumber (now (state .entry))) × (now (state .exit) ≡ missingAfter (now (state .entry))) ⌝ }
+    ensures { λ r. ⌜ ReportMissingPromise (now (state .entry)) r (now (state .exit)) ⌝ }
 {
     if !states::is_sound_at(state) {
         return 4;
@@ -54,10 +53,8 @@ pub extern "C" fn oarcradler_read_stereo(
     end: u32,
     answer: &mut [u8],
 ) -> u32
-    ensures { λ r. ⌜ r ≡ stereoNumber (now (state .entry)) (now (buf .entry)) start end (length (now (answer .entry))) ⌝ }
-    ensures { λ r. ⌜ now (state .exit) ≡ stereoStateAfter (now (state .entry)) (now (buf .entry)) start end
-        (length (now (answer .entry))) ⌝ }
-    ensures { λ r. ⌜ now (answer .exit) ≡ stereoAnswerAfter (now (state .entry)) (now (buf .entry)) start end (now (answer .entry)) ⌝ }
+    ensures { λ r. ⌜ ReadStereoPromise (now (state .entry)) (now (buf .entry)) start end (now (answer .entry))
+        r (now (state .exit)) (now (answer .exit)) ⌝ }
 {
     let first = start as usize;
     let last = end as usize;

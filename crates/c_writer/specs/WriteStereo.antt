@@ -1,5 +1,6 @@
 -- The contents that bytes stand for, written from the state that bytes stand for.
 use Prim.Native.Nat.{ℕ}
+use mathlib.Core.Path.{_≡_}
 use mathlib.Core.List.{List}
 use lib.Dec.{eqb, leb}
 use lib.ListN.{length}
@@ -37,3 +38,10 @@ unfoldable pub writeOutputAfter : List ℕ → List ℕ → List ℕ → List �
 writeOutputAfter s contents out =
     pick (eqb (writeCallRefusal s (length contents)) 0)
     (writtenOver (stereoWriting s contents (length out)) (stateAt s) (contentsAt contents) out) out
+
+-- everything that a call gives: the number that comes back, and the state, the contents and the output afterwards
+abbrev pub WriteStereoPromise : List ℕ → List ℕ → List ℕ → ℕ → List ℕ → List ℕ → List ℕ → Type 0
+WriteStereoPromise s contents out r s′ contents′ out′ =
+    (r ≡ writeNumber s contents (length out))
+    × ((s′ ≡ writeStateAfter s contents (length out))
+    × ((contents′ ≡ writeContentsAfter s contents (length out)) × (out′ ≡ writeOutputAfter s contents out)))

@@ -1,7 +1,6 @@
 // A stereo payload, written from contents and a state that are bytes.
 ghost use mathlib.Core.Path.{_≡_};
-ghost use lib.ListN.{length};
-ghost use Rattle.c_writer.specs.WriteStereo.{writeCallRefusal, writeNumber, writeStateAfter, writeContentsAfter, writeOutputAfter};
+ghost use Rattle.c_writer.specs.WriteStereo.{writeCallRefusal, WriteStereoPromise};
 use bits::bytes;
 use c_layout::answers;
 use c_layout::states;
@@ -27,10 +26,8 @@ pub extern "C" fn oarcradler_write_stereo(
     contents: &mut [u8],
     out: &mut [u8],
 ) -> u32
-    ensures { λ r. ⌜ r ≡ writeNumber (now (state .entry)) (now (contents .entry)) (length (now (out .entry))) ⌝ }
-    ensures { λ r. ⌜ now (state .exit) ≡ writeStateAfter (now (state .entry)) (now (contents .entry)) (length (now (out .entry))) ⌝ }
-    ensures { λ r. ⌜ now (contents .exit) ≡ writeContentsAfter (now (state .entry)) (now (contents .entry)) (length (now (out .entry))) ⌝ }
-    ensures { λ r. ⌜ now (out .exit) ≡ writeOutputAfter (now (state .entry)) (now (contents .entry)) (now (out .entry)) ⌝ }
+    ensures { λ r. ⌜ WriteStereoPromise (now (state .entry)) (now (contents .entry)) (now (out .entry))
+        r (now (state .exit)) (now (contents .exit)) (now (out .exit)) ⌝ }
 {
     let number = write_call_refusal(state, contents.len());
     if number != 0 {

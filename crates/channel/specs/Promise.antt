@@ -1,5 +1,6 @@
 -- What is promised of a call: its answer, and what the lent outputs hold afterwards.
 use Prim.Native.Nat.{ℕ}
+use mathlib.Core.Path.{_≡_}
 use mathlib.Core.List.{List, _++_}
 use mathlib.Core.Bool.{_&&_}
 use lib.Dec.{eqb, leb}
@@ -64,3 +65,9 @@ factorsAfter (refused n place) old = old
 abbrev pub booksAfter : Answer Stream → List ℕ → List ℕ
 booksAfter (got x next) old = x .books ++ drop 120 old
 booksAfter (refused n place) old = old
+
+-- everything that a call gives: the answer, and the lines, scale factors and books afterwards
+abbrev pub ReadChannelPromise : List ℕ → ℕ → ℕ → ℕ → List ℤ → List ℕ → List ℕ → Reading → List ℤ → List ℕ → List ℕ → Type 0
+ReadChannelPromise buf start end index lines factors books r lines′ factors′ books′ =
+    let x = channel buf start end index (length lines) (length factors) (length books) in
+    (r ≡ readingOf x) × ((lines′ ≡ linesAfter x lines) × ((factors′ ≡ factorsAfter x factors) × (books′ ≡ booksAfter x books)))

@@ -1,12 +1,12 @@
 // One AAC channel stream: read whole from a range of a lent buffer.
 ghost use mathlib.Core.Path.{_≡_};
 ghost use mathlib.Core.List.{_++_};
-ghost use Prim.Native.Nat.{_*_, _≤_, _<_, _^_};
+ghost use Prim.Native.Nat.{_≤_, _<_, _^_};
 ghost use lib.ListN.{length, drop};
 ghost use Rattle.bits.specs.Payload.{whole};
 ghost use Rattle.channel.specs.Stream.{stream};
 ghost use Rattle.channel.specs.Promise.{channelCallRefusal, refusal, accepted, channel};
-ghost use Rattle.channel.specs.Promise.{readingOf, linesAfter, factorsAfter, booksAfter};
+ghost use Rattle.channel.specs.Promise.{readingOf, linesAfter, factorsAfter, booksAfter, ReadChannelPromise};
 use crate::stream::Head;
 use bits::Ended;
 use bits::bytes;
@@ -155,18 +155,8 @@ pub fn read_channel(
     factors: &mut [u8],
     books: &mut [u8],
 ) -> Reading
-    ensures { λ r. ⌜ r
-        ≡ readingOf (channel (now (buf .entry)) start end index
-        (length (now (lines .entry))) (length (now (factors .entry))) (length (now (books .entry)))) ⌝ }
-    ensures { λ r. ⌜ now (lines .exit)
-        ≡ linesAfter (channel (now (buf .entry)) start end index
-        (length (now (lines .entry))) (length (now (factors .entry))) (length (now (books .entry)))) (now (lines .entry)) ⌝ }
-    ensures { λ r. ⌜ now (factors .exit)
-        ≡ factorsAfter (channel (now (buf .entry)) start end index
-        (length (now (lines .entry))) (length (now (factors .entry))) (length (now (books .entry)))) (now (factors .entry)) ⌝ }
-    ensures { λ r. ⌜ now (books .exit)
-        ≡ booksAfter (channel (now (buf .entry)) start end index
-        (length (now (lines .entry))) (length (now (factors .entry))) (length (now (books .entry)))) (now (books .entry)) ⌝ }
+    ensures { λ r. ⌜ ReadChannelPromise (now (buf .entry)) start end index (now (lines .entry)) (now (factors .entry)) (now (books .entry))
+        r (now (lines .exit)) (now (factors .exit)) (now (books .exit)) ⌝ }
 {
     let first = start as usize;
     let last = end as usize;

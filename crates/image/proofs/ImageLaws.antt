@@ -109,6 +109,31 @@ header-sound s e = go (soundImage s) refl (knownIndex (indexOf s)) e
     go true q false e = absurd (omega arith)
     go false q b e = absurd (omega arith)
 
+-- 5 is answered exactly where the image is not sound
+pub header-5 : (s : List ℕ) → headerOf s .number ≡ 5 → (soundImage s ≡ false) × (headerOf s ≡ refusedHeader 5)
+unfolding headerOf
+header-5 s e = go (soundImage s) (knownIndex (indexOf s)) e
+  where
+    go : (a b : Bool)
+        → pick a (pick b (record { number = 0; count = countOf s; index = indexOf s }) (refusedHeader 3)) (refusedHeader 5) .number ≡ 5
+        → (a ≡ false)
+        × (pick a (pick b (record { number = 0; count = countOf s; index = indexOf s }) (refusedHeader 3)) (refusedHeader 5)
+        ≡ refusedHeader 5)
+    go true true e = absurd (omega arith)
+    go true false e = absurd (omega arith)
+    go false b e = (refl, refl)
+
+pub header-not-5 : (s : List ℕ) → (headerOf s .number ≡ 5 → ⊥) → soundImage s ≡ true
+unfolding headerOf
+header-not-5 s = go (soundImage s)
+  where
+    go : (a : Bool)
+        → (pick a (pick (knownIndex (indexOf s)) (record { number = 0; count = countOf s; index = indexOf s }) (refusedHeader 3))
+        (refusedHeader 5) .number ≡ 5 → ⊥)
+        → a ≡ true
+    go true f = refl
+    go false f = absurd (f refl)
+
 -- what is known where a header was accepted, and k is below its count
 pub header-known : (s : List ℕ) (k : ℕ) {h : Header} → h ≡ headerOf s → h .number ≡ 0 → k < h .count → Sound s × (k < countOf s)
 header-known s k {h} e z l =

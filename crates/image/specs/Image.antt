@@ -1,5 +1,6 @@
 -- The tag image: big-endian pairs of bytes, the payload count, the sampling index and the offsets; then the payloads.
-use Prim.Native.Nat.{ℕ, zero, suc, _+_, _*_, _%_}
+use Prim.Native.Nat.{ℕ, zero, suc, _+_, _*_, _%_, _≤_}
+use mathlib.Core.Path.{_≡_}
 use mathlib.Core.List.{List}
 use mathlib.Core.Bool.{Bool, true, _&&_}
 use lib.Dec.{leb, ltb, eqb}
@@ -62,3 +63,10 @@ partOf s k = partIn (headerOf s) s k
 -- the bytes of the k-th payload
 abbrev pub bytesOf : List ℕ → ℕ → List ℕ
 bytesOf s k = range s (offsetOf s k) (offsetOf s (k + 1))
+
+-- what is promised of a header, and of a payload's part: it lies in the image, whose offsets are pairs of bytes
+abbrev pub HeaderPromise : List ℕ → Header → Type 0
+HeaderPromise image r = r ≡ headerOf image
+
+abbrev pub PartPromise : List ℕ → ℕ → Part → Type 0
+PartPromise image k r = (r ≡ partOf image k) × (r .start ≤ r .end) × (r .end ≤ length image) × (r .end ≤ 65535)

@@ -2,7 +2,7 @@
 ghost use mathlib.Core.Path.{_≡_};
 ghost use Prim.Native.Nat.{_+_, _*_, _<_, _≤_};
 ghost use lib.ListN.{length};
-ghost use Rattle.image.specs.Image.{pairAt, rising, soundImage, headerOf, partOf};
+ghost use Rattle.image.specs.Image.{pairAt, countOf, rising, soundImage, HeaderPromise, PartPromise};
 
 // What an image's header says: a refusal's number, or 0 with the payload count and the sampling index.
 pub struct Header {
@@ -30,6 +30,14 @@ fn pair_at(image: &[u8], i: usize) -> usize
     ensures { λ r. ⌜ (r ≡ pairAt (now (image .entry)) i) × (r ≤ 65535) ⌝ }
 {
     wide(image[i]) * 256 + wide(image[i + 1])
+}
+
+// How many payloads an image has.
+pub fn count_of(image: &[u8]) -> usize
+    requires { ⌜ 1 < length (now image) ⌝ }
+    ensures { λ r. ⌜ r ≡ countOf (now (image .entry)) ⌝ }
+{
+    pair_at(image, 0)
 }
 
 // Whether none of the n offsets after the first is before the one that it follows.
@@ -79,7 +87,7 @@ fn is_sound(image: &[u8]) -> bool
 
 // The header of an image: 5, then 3.
 pub fn read_header(image: &[u8]) -> Header
-    ensures { λ r. ⌜ r ≡ headerOf (now (image .entry)) ⌝ }
+    ensures { λ r. ⌜ HeaderPromise (now (image .entry)) r ⌝ }
 {
     if !is_sound(image) {
         return Header {
@@ -105,7 +113,7 @@ pub fn read_header(image: &[u8]) -> Header
 
 // The part of an image that its k-th payload is; 1 where there is none. It lies in the image.
 pub fn part_of(image: &[u8], k: usize) -> Part
-    ensures { λ r. ⌜ (r ≡ partOf (now (image .entry)) k) × (r .start ≤ r .end) × (r .end ≤ length (now (image .entry))) ⌝ }
+    ensures { λ r. ⌜ PartPromise (now (image .entry)) k r ⌝ }
 {
     let header = read_header(image);
     let number = header.number;

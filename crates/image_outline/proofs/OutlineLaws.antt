@@ -1,18 +1,18 @@
 -- One payload more: its part, its row, the state after it; and how an outline ends.
 -- Assumes nothing.
-use Prim.Native.Nat.{ℕ, zero, suc, _+_, _*_, _<_, _≤_}
+use Prim.Native.Nat.{ℕ, suc, _+_, _*_, _<_, _≤_}
 use mathlib.Core.Path.{_≡_, refl, sym, ap, _∙_}
 use mathlib.Core.List.{List, _++_}
 use mathlib.Core.Bool.{Bool, true, false}
 use native.Mathlib.Omega.{arith}
 use native.Mathlib.Numerals.{add-one}
 use borrow.Author.Tests.{lt-ltb, le-leb, lt-leb, ne-eqb}
-use lib.Dec.{eqb, leb}
+use lib.Dec.{leb}
 use lib.ListN.{length}
 use Rattle.bits.specs.Reader.{pick}
-use Rattle.image.specs.Image.{countOf, offsetOf, refusedHeader, headerOf, partOf, bytesOf}
+use Rattle.image.specs.Image.{countOf, offsetOf, soundImage, refusedHeader, headerOf, partOf, bytesOf}
 use Rattle.image.specs.declared.Header.{Header}
-use Rattle.image.proofs.ImageLaws.{Sound, header-sound}
+use Rattle.image.proofs.ImageLaws.{header-sound, header-5, header-not-5}
 use Rattle.bits.specs.Bytes.{over}
 use Rattle.image_outline.specs.Answers.{stateFrom, stateBefore}
 use Rattle.image_outline.specs.Outline.{rowFrom, rowOf, rowsOf, outlineOf, rowsAfter}
@@ -43,31 +43,44 @@ module _ (s : List ℕ) (count index k : ℕ) (h : headerOf s ≡ soundHeader co
   pub state-more : stateFrom (stateBefore s k) k (bytesOf s k) ≡ stateBefore s (k + 1)
   state-more = state-next ∙ ap (λ (n : ℕ). stateBefore s n) (sym (add-one k))
 
--- the three ways in which an outline ends: what is answered, and what the lent rows hold then
+-- the four ways in which an outline ends: what is answered, and what the lent rows hold then
 module _ (s rows : List ℕ) where
   abbrev pub Ends : Header → List ℕ → Type 0
   Ends h told = (h ≡ outlineOf s (length rows)) × (told ≡ rowsAfter s rows)
 
-  pub header-refused : (headerOf s .number ≡ 0 → ⊥) → Ends (headerOf s) rows
-  unfolding outlineOf rowsAfter
-  header-refused h = let stop = ne-eqb (headerOf s .number) 0 h in (rw stop, rw (stop, stop))
+  -- an answer that is not 0 leaves the rows
+  left : (h : Header) → h ≡ outlineOf s (length rows) → (h .number ≡ 0 → ⊥) → Ends h rows
+  unfolding rowsAfter
+  left h e n = (e, rw (← e, ne-eqb (h .number) 0 n))
 
-  module _ (e : headerOf s .number ≡ 0) where
-    pub no-room : length rows < 4 * headerOf s .count → Ends (refusedHeader 2) rows
-    unfolding outlineOf rowsAfter
-    no-room h = let stop = lt-leb (4 * headerOf s .count) (length rows) h in (rw (e, stop), rw (e, stop))
+  pub image-refused : headerOf s .number ≡ 5 → Ends (headerOf s) rows
+  unfolding outlineOf
+  image-refused e = let h = header-5 s e in left (headerOf s) (rw (h .0) (h .1)) (λ z. absurd (omega arith))
 
-    pub outlined : 4 * headerOf s .count ≤ length rows → Ends (headerOf s) (over rows 0 (rowsOf s (headerOf s .count)))
-    unfolding outlineOf rowsAfter
-    outlined h = let fits = le-leb (4 * headerOf s .count) (length rows) h in (rw (e, fits), rw (e, fits))
+  module _ (e : headerOf s .number ≡ 5 → ⊥) where
+    pub no-room : length rows < 4 * countOf s → Ends (refusedHeader 2) rows
+    unfolding outlineOf
+    no-room h =
+        left (refusedHeader 2) (rw (header-not-5 s e, lt-leb (4 * countOf s) (length rows) h)) (λ z. absurd (omega arith))
+
+    fits : 4 * countOf s ≤ length rows → headerOf s ≡ outlineOf s (length rows)
+    unfolding outlineOf
+    fits h = rw (header-not-5 s e, le-leb (4 * countOf s) (length rows) h)
+
+    pub index-refused : 4 * countOf s ≤ length rows → (headerOf s .number ≡ 0 → ⊥) → Ends (headerOf s) rows
+    index-refused h n = left (headerOf s) (fits h) n
+
+    pub outlined : 4 * countOf s ≤ length rows → headerOf s .number ≡ 0 → Ends (headerOf s) (over rows 0 (rowsOf s (headerOf s .count)))
+    unfolding rowsAfter
+    outlined h z = (fits h, rw (← fits h, z))
 
 -- an outline that is answered has few payloads
-few : (s : List ℕ) (h : Header) (b : Bool) (n : ℕ) → h .number ≡ n → (h .number ≡ 0 → Sound s × (h .count ≡ countOf s))
-    → pick (eqb n 0) (pick b h (refusedHeader 2)) h .number ≡ 0 → pick (eqb n 0) (pick b h (refusedHeader 2)) h .count ≤ 1024
-few s h true zero e known z = let k = known e in omega (arith, k .0 .few, k .1)
-few s h false zero e known z = absurd (omega arith)
-few s h b (suc n) e known z = absurd (omega (arith, rw (ne-eqb (suc n) 0 (λ q. absurd (omega arith))) at z))
-
 pub outline-few : (s : List ℕ) (room : ℕ) → outlineOf s room .number ≡ 0 → outlineOf s room .count ≤ 1024
 unfolding outlineOf
-outline-few s room e = few s (headerOf s) (leb (4 * headerOf s .count) room) (headerOf s .number) refl (λ z. header-sound s z) e
+outline-few s room = go (soundImage s) (leb (4 * countOf s) room)
+  where
+    go : (a b : Bool) → pick a (pick b (headerOf s) (refusedHeader 2)) (refusedHeader 5) .number ≡ 0
+        → pick a (pick b (headerOf s) (refusedHeader 2)) (refusedHeader 5) .count ≤ 1024
+    go true true e = let k = header-sound s e in omega (arith, k .0 .few, k .1)
+    go true false e = absurd (omega arith)
+    go false b e = absurd (omega arith)

@@ -2,6 +2,7 @@
 -- of its lines are not 0, and its bits; an accepted stereo payload has 0, its envelopes, 0, and its bits; a refused
 -- payload its number and zeros.
 use Prim.Native.Nat.{ℕ, zero, suc, _+_, _*_}
+use mathlib.Core.Path.{_≡_}
 use mathlib.Core.List.{List, [], _∷_, _++_}
 use lib.Dec.{eqb, leb}
 use lib.IntN.{ℤ, natAbs}
@@ -10,7 +11,7 @@ use Rattle.bits.specs.Reader.{Answer, got, refused, pick}
 use Rattle.channel.specs.Stream.{Stream}
 use Rattle.stereo_reader.specs.declared.Reading.{Reading}
 use Rattle.stereo.specs.declared.State.{State}
-use Rattle.image.specs.Image.{bytesOf, refusedHeader, headerOf}
+use Rattle.image.specs.Image.{countOf, soundImage, refusedHeader, headerOf, bytesOf}
 use Rattle.image.specs.declared.Header.{Header}
 use Rattle.bits.specs.Bytes.{over}
 use Rattle.image_outline.specs.Answers.{isEven, channelIn, stereoIn, stateBefore}
@@ -41,13 +42,14 @@ unfoldable pub rowsOf : List ℕ → ℕ → List ℕ
 rowsOf s zero = []
 rowsOf s (suc k) = rowsOf s k ++ rowOf s k
 
--- the header's refusal, then 2 where the rows don't fit
-abbrev pub outlineIn : Header → ℕ → Header
-outlineIn h room = pick (eqb (h .number) 0) (pick (leb (4 * h .count) room) h (refusedHeader 2)) h
-
+-- 5, then 2 where the rows don't fit, then 3
 unfoldable pub outlineOf : List ℕ → ℕ → Header
-outlineOf s room = outlineIn (headerOf s) room
+outlineOf s room = pick (soundImage s) (pick (leb (4 * countOf s) room) (headerOf s) (refusedHeader 2)) (refusedHeader 5)
 
 -- the lent rows afterwards: those of each payload from the front on, or what they held
 unfoldable pub rowsAfter : List ℕ → List ℕ → List ℕ
 rowsAfter s rows = pick (eqb (outlineOf s (length rows) .number) 0) (over rows 0 (rowsOf s (headerOf s .count))) rows
+
+-- what is promised of the outline: the header, and the lent rows afterwards
+abbrev pub OutlinePromise : List ℕ → List ℕ → Header → List ℕ → Type 0
+OutlinePromise image rows r after = (r ≡ outlineOf image (length rows)) × (after ≡ rowsAfter image rows)

@@ -7,7 +7,7 @@ ghost use lib.ListN.{length, replicate};
 ghost use Rattle.image.specs.Image.{headerOf};
 ghost use Rattle.bits.specs.Bytes.{over};
 ghost use Rattle.image_outline.specs.Answers.{channelIn, stereoIn, stateFrom};
-ghost use Rattle.image_outline.specs.Outline.{sounding, channelRow, stereoRow, rowFrom, rowsOf, outlineOf, rowsAfter};
+ghost use Rattle.image_outline.specs.Outline.{sounding, channelRow, stereoRow, rowFrom, rowsOf, OutlinePromise};
 use image::Header;
 use stereo::State;
 use stereo::states;
@@ -148,21 +148,22 @@ fn fill_rows(image: &[u8], count: usize, index: u8, rows: &mut [usize])
 
 // The outline of an image: its header, and in the lent rows four numbers of each payload.
 pub fn read_image(image: &[u8], rows: &mut [usize]) -> Header
-    ensures { λ r. ⌜ (r ≡ outlineOf (now (image .entry)) (length (now (rows .entry))))
-        × (now (rows .exit) ≡ rowsAfter (now (image .entry)) (now (rows .entry))) ⌝ }
+    ensures { λ r. ⌜ OutlinePromise (now (image .entry)) (now (rows .entry)) r (now (rows .exit)) ⌝ }
 {
     let header = image::read_header(image);
-    if header.number != 0 {
+    if header.number == 5 {
         return header;
     }
-    let count = header.count;
-    if rows.len() < 4 * count {
+    if rows.len() < 4 * image::count_of(image) {
         return Header {
             number: 2,
             count: 0,
             index: 0,
         };
     }
-    fill_rows(image, count, header.index, rows);
+    if header.number != 0 {
+        return header;
+    }
+    fill_rows(image, header.count, header.index, rows);
     header
 }

@@ -1,14 +1,14 @@
 -- Demand 2: what is accepted is what the rules allow, with exactly its numbers, its bit count and the state after it.
 -- Assumes nothing.
-use Prim.Native.Nat.{ℕ, _≤_}
+use Prim.Native.Nat.{ℕ}
 use mathlib.Core.Path.{_≡_, refl, sym, _∙_, ap}
 use mathlib.Core.List.{List}
-use mathlib.Core.Bool.{Bool, true, false, _&&_, _||_}
+use mathlib.Core.Bool.{Bool, true, false, _&&_}
 use native.Mathlib.Omega.{arith}
 use borrow.Author.Tests.{leb-true, le-leb}
 use lib.Dec.{eqb, leb}
 use lib.ListN.{length}
-use Rattle.bits.specs.Reader.{Answer, got, refused, pick}
+use Rattle.bits.specs.Reader.{got, refused, pick}
 use Rattle.bits.specs.Payload.{inBuffer, range, whole}
 use Rattle.bits.specs.Sampling.{knownIndex}
 use Rattle.bits.proofs.Bools.{and-both}
@@ -16,10 +16,9 @@ use Rattle.bits.proofs.Lawful.{never}
 use Rattle.bits.proofs.PayloadLaws.{whole-got, whole-is}
 use Rattle.channel.specs.Stream.{Stream, stream}
 use Rattle.channel.specs.Promise.{channelCallRefusal, channel}
-use Rattle.stereo.specs.State.{sound, lost}
+use Rattle.stereo.specs.State.{sound}
 use Rattle.stereo.specs.Payload.{payload}
 use Rattle.stereo.specs.Carried.{carried}
-use Rattle.stereo.specs.Restart.{restart}
 use Rattle.stereo_reader.specs.Reading.{from, refusal, taken, readBytes, readFrom}
 use Rattle.stereo.specs.declared.State.{State}
 use Rattle.stereo.specs.declared.Contents.{Contents}
@@ -45,7 +44,8 @@ module _ (buf : List ℕ) (start end index lines factors books : ℕ) (x : Strea
   pub stream-exactly : channel buf start end index lines factors books ≡ got x bits
       → StreamAllowed buf start end index lines factors books x bits
   unfolding channel channelCallRefusal
-  stream-exactly e = go (inBuffer start end (length buf)) refl (leb 1024 lines && leb 120 factors && leb 120 books) refl (knownIndex index) refl e
+  stream-exactly e =
+      go (inBuffer start end (length buf)) refl (leb 1024 lines && leb 120 factors && leb 120 books) refl (knownIndex index) refl e
     where
       made : Bool → Bool → Bool → ℕ
       made a b c = pick a (pick b (pick c 0 3) 2) 1

@@ -1,6 +1,6 @@
 -- Every line of the table of bench examples holds: by computing, and for 11110 by what the first five bits are.
 -- Assumes nothing.
-use Prim.Native.Nat.{ℕ, _*_, _+_, _<_, _≤_}
+use Prim.Native.Nat.{ℕ, _*_, _≤_}
 use mathlib.Core.Path.{_≡_, refl}
 use mathlib.Core.List.{List, [], _∷_}
 use mathlib.Core.Logic.{_≢_}
@@ -10,7 +10,6 @@ use lib.ListN.{length}
 use Rattle.bits.specs.Bits.{bitsFrom}
 use Rattle.bits.specs.Reader.{refused}
 use Rattle.bits.specs.Field.{field}
-use Rattle.bits.specs.Payload.{whole}
 use Rattle.bits.proofs.BitLaws.{bitsFrom-lt, bitsFrom-split}
 use Rattle.bits.proofs.PayloadLaws.{whole-refused}
 use Rattle.stereo.specs.State.{lost}
@@ -41,4 +40,5 @@ begins-11110 st (x ∷ s) h e =
 
 pub bench-holds : AllHold bench
 unfolding bench stereoAll channelAll
-bench-holds = (refl, (refl, (refl, (refl, (begins-11110, (refl, (refl, (refl, (refl, (refl, (refl, (refl, (refl, (refl, (refl, tt)))))))))))))))
+bench-holds =
+    (refl, (refl, (refl, (refl, (begins-11110, (refl, (refl, (refl, (refl, (refl, (refl, (refl, (refl, (refl, (refl, tt)))))))))))))))

@@ -30,11 +30,11 @@ use Rattle.stereo_reader.specs.Reading.{from, refusal, taken, readingOf, readBy
 use Rattle.stereo_reader.specs.declared.Reading.{Reading}
 use Rattle.stereo.proofs.StateLaws.{fresh-sound, lost-sound}
 use Rattle.c_layout.specs.StateBytes.{stateHead, stateBytes, stateAt, isFlag, soundBytes}
-use Rattle.c_layout.specs.ContentsBytes.{contentsAt, answerBytes}
-use Rattle.c_layout.proofs.StateLaws.{SoundParts, sound-parts, sound-of, flagged}
+use Rattle.c_layout.specs.ContentsBytes.{answerBytes}
+use Rattle.c_layout.proofs.StateLaws.{sound-parts, sound-of, flagged}
 use Rattle.c_layout.proofs.BackLaws.{ContentsFit, StateFits, state-back, contents-back, bits-back}
 use Rattle.c_stereo.specs.StateCalls.{freshAfter, lostBytes}
-use Rattle.c_stereo.specs.ReadStereo.{stereoCallRefusal, stereoReading, stereoNumber, stereoStateAfter, stereoAnswerAfter}
+use Rattle.c_stereo.specs.ReadStereo.{stereoCallRefusal, stereoNumber, stereoStateAfter, stereoAnswerAfter}
 use Rattle.image.specs.Image.{bytesOf}
 use Rattle.image_outline.specs.Answers.{isEven, stereoIn, stateFrom, stateBefore}
 use Rattle.runs.specs.Machine.{Event, payload, missing as reporting, reported, Turn, turn, run, after}
@@ -154,7 +154,8 @@ lost-soundly s e =
 written-back : (s : List ℕ) (st : State) → StateFits st → stateAt (over s 0 (stateBytes st)) ≡ st
 written-back s st f = ap stateAt (after-front s (stateBytes st)) ∙ state-back st (drop (length (stateBytes st)) s) f
 
-written-soundly : (s : List ℕ) (st : State) → 146 ≤ length s → StateFits st → sound st ≡ true → soundBytes (over s 0 (stateBytes st)) ≡ true
+written-soundly : (s : List ℕ) (st : State) → 146 ≤ length s → StateFits st → sound st ≡ true
+    → soundBytes (over s 0 (stateBytes st)) ≡ true
 written-soundly s st h f e =
     sound-of (over s 0 (stateBytes st)) (record {
       long = no-fewer s (stateBytes st) 146 h;
@@ -181,7 +182,8 @@ module _ (k : Kept) (w : Keeps k) where
   reported-turn : byteTurn k reporting ≡ turn stereo st reporting
   reported-turn =
       let p = sound-parts (k .state) (w .sound) in
-      rw (w .sound, p .state) (ap (λ (x : State). record { outcome = reported; state = x }) (lost-bytes (k .state) (omega (arith, p .long))))
+      rw (w .sound, p .state)
+      (ap (λ (x : State). record { outcome = reported; state = x }) (lost-bytes (k .state) (omega (arith, p .long))))
 
   module _ (b : List ℕ) (start end : ℕ) where
     abbrev event : Event
@@ -282,12 +284,14 @@ from-fresh-bytes s answer es h g =
 
 -- the odd payloads of an image, whatever the even ones are: each is one turn from the state that the ones before it left
 module _ (s : List ℕ) where
-  odd-turn : (k : ℕ) (st : State) → stateBefore s k ≡ st → turnOf (stereoIn (stateBefore s k) (bytesOf s k)) ≡ turn stereo st (oddPayload s k)
+  odd-turn : (k : ℕ) (st : State) → stateBefore s k ≡ st
+      → turnOf (stereoIn (stateBefore s k) (bytesOf s k)) ≡ turn stereo st (oddPayload s k)
   unfolding stereoIn
   odd-turn k st e = rw e (sym (reads st (bytesOf s k) 0 (length (bytesOf s k))))
 
   odd-next : (k : ℕ) (es : List Event) (b : Bool) → stateBefore s k ≡ after stereo fresh es
-      → pick b (stateBefore s k) (stereoIn (stateBefore s k) (bytesOf s k) .state) ≡ after stereo fresh (es ++ pick b [] (oddPayload s k ∷ []))
+      → pick b (stateBefore s k) (stereoIn (stateBefore s k) (bytesOf s k) .state)
+      ≡ after stereo fresh (es ++ pick b [] (oddPayload s k ∷ []))
   odd-next k es true e = e ∙ ap (after stereo fresh) (sym (append-nil es))
   odd-next k es false e =
       ap (λ (t : Turn State Contents). t .state) (odd-turn k (after stereo fresh es) e)
@@ -309,5 +313,6 @@ module _ (s : List ℕ) where
   pub odd-run : (k : ℕ) → oddTurns s k ≡ run stereo fresh (oddPayloads s k)
   odd-run zero = refl
   odd-run (suc k) =
-      ap (λ (ts : List (Turn State Contents)). ts ++ pick (isEven k) [] (turnOf (stereoIn (stateBefore s k) (bytesOf s k)) ∷ [])) (odd-run k)
+      ap (λ (ts : List (Turn State Contents)). ts ++ pick (isEven k) [] (turnOf (stereoIn (stateBefore s k) (bytesOf s k)) ∷ []))
+      (odd-run k)
       ∙ odd-more k (oddPayloads s k) (isEven k) (odd-state k)

@@ -1,4 +1,5 @@
--- The three demands as theorems, each by what is proved of the parts.
+-- The three demands as theorems, each by what is proved of the parts. Of demand 1, which numbers come back stands in `Refusals`, what a
+-- refusal leaves in `Untouched`, and that no proper prefix of an image is taken in `ImageCut`.
 -- Assumes nothing.
 use Prim.Native.Nat.{ℕ, _*_, _<_, _≤_}
 use mathlib.Core.Path.{_≡_, sym, ap, _∙_}
@@ -9,7 +10,8 @@ use lib.ListN.{length, take, drop}
 use Rattle.bits.specs.Bits.{bitAt}
 use Rattle.bits.specs.Reader.{got, refused}
 use Rattle.bits.specs.Payload.{inBuffer, range, whole}
-use Rattle.bits.specs.Packed.{bytesFor, packed}
+use Rattle.bits.specs.Packed.{bytesFor}
+use Rattle.bits.proofs.Exact.{ReadTo}
 use Rattle.channel.specs.Stream.{Stream, stream}
 use Rattle.channel.specs.Promise.{channel}
 use Rattle.channel.proofs.Demands.{only-the-range, cut-is-10}
@@ -19,17 +21,20 @@ use Rattle.stereo_reader.specs.Reading.{from, refusal, readBytes, readFrom}
 use Rattle.stereo.specs.declared.State.{State}
 use Rattle.stereo.specs.declared.Contents.{Contents}
 use Rattle.stereo_reader.proofs.ReadingLaws.{outside-counts-not, read-cut}
-use Rattle.stereo_writer.specs.Spelling.{spelling}
-use Rattle.stereo_writer.specs.Writing.{writing}
-use Rattle.stereo_writer.proofs.WritingLaws.{write-read, read-write}
+use Rattle.stereo.specs.Carried.{carried}
+use Rattle.stereo_writer.specs.Writing.{unwritten, writing, writtenOver}
+use Rattle.stereo_writer.proofs.WritingLaws.{forty-only}
 use Rattle.runs.specs.Machine.{Event, payload as given, missing, reported, origin, concluded, Turn, run, after, turn}
 use Rattle.runs.specs.Damage.{Restarting, NoRestart, AllLost, Silent}
 use Rattle.runs.proofs.TurnLaws.{own-turn, own-report}
 use Rattle.runs.proofs.Demand.{restored, nothing-between, run-from}
 use Rattle.c_stereo.specs.StateCalls.{freshAfter}
 use Rattle.promises.specs.Run.{stereo}
+use Rattle.promises.specs.Allowed.{StreamAllowed, PayloadAllowed}
 use Rattle.promises.specs.CallRun.{calls, lentCalls, byteCalls, Faithful}
 use Rattle.promises.proofs.Turns.{steady}
+use Rattle.promises.proofs.Acceptance.{stream-allowed, stream-exactly, payload-allowed, payload-exactly}
+use Rattle.promises.proofs.RoundTrips.{written-back, read-back, forty-exactly}
 use Rattle.promises.proofs.CallRuns.{by-value, over-lent, from-fresh-bytes}
 
 -- demand 1, of a channel stream: no bit outside the range counts, and no cut goes unseen
@@ -52,17 +57,51 @@ pub cut : (st : State) (s : List ℕ) (next : ℕ) (c : Contents) (k : ℕ) → 
     → readBytes st (take k s) ≡ refusal 10 (lost st)
 cut = read-cut
 
--- demand 2: what is written reads back the same, and what was read is written back to its bits
-pub written-reads : (st : State) (c : Contents) (room : ℕ) → writing st c room .number ≡ 0
-    → readBytes st (packed (spelling (from st) c))
-    ≡ record { number = 0; bits = writing st c room .bits; contents = c; state = writing st c room .state }
-written-reads = write-read
+-- demand 2: a channel stream is accepted exactly where the rules allow it, with exactly its numbers and bit count
+module _ (buf : List ℕ) (start end index lines factors books : ℕ) (x : Stream) (bits : ℕ) where
+  pub streams-accepted : StreamAllowed buf start end index lines factors books x bits
+      → channel buf start end index lines factors books ≡ got x bits
+  streams-accepted = stream-allowed buf start end index lines factors books x bits
 
-pub read-writes : (st : State) (s : List ℕ) (room : ℕ) → sound st ≡ true → readBytes st s .number ≡ 0
-    → bytesFor (readBytes st s .bits) ≤ room
-    → (writing st (readBytes st s .contents) room ≡ record { number = 0; bits = readBytes st s .bits; state = readBytes st s .state })
-    × ((i : ℕ) → i < readBytes st s .bits → bitAt (packed (spelling (from st) (readBytes st s .contents))) i ≡ bitAt s i)
-read-writes = read-write
+  pub no-other-stream : channel buf start end index lines factors books ≡ got x bits
+      → StreamAllowed buf start end index lines factors books x bits
+  no-other-stream = stream-exactly buf start end index lines factors books x bits
+
+-- and so is a stereo payload, with the state after it
+module _ (st : State) (buf : List ℕ) (start end : ℕ) where
+  pub payloads-accepted : (c : Contents) (bits : ℕ) → PayloadAllowed st buf start end c bits
+      → readFrom st buf start end ≡ record { number = 0; bits = bits; contents = c; state = carried (from st) c }
+  payloads-accepted = payload-allowed st buf start end
+
+  pub no-other-payload : readFrom st buf start end .number ≡ 0
+      → PayloadAllowed st buf start end (readFrom st buf start end .contents) (readFrom st buf start end .bits)
+      × (readFrom st buf start end .state ≡ carried (from st) (readFrom st buf start end .contents))
+  no-other-payload = payload-exactly st buf start end
+
+-- what the buffer holds after `write` reads back the same
+pub written-reads : (st : State) (c : Contents) (out : List ℕ) → writing st c (length out) .number ≡ 0
+    → readFrom st (writtenOver (writing st c (length out)) st c out) 0 (bytesFor (writing st c (length out) .bits))
+    ≡ record { number = 0; bits = writing st c (length out) .bits; contents = c; state = writing st c (length out) .state }
+written-reads = written-back
+
+-- and what was read from a range is written back to its bits, from the same state, into a buffer that has room
+pub read-writes : (st : State) (buf : List ℕ) (start end : ℕ) (out : List ℕ) → readFrom st buf start end .number ≡ 0
+    → bytesFor (readFrom st buf start end .bits) ≤ length out
+    → (writing st (readFrom st buf start end .contents) (length out)
+    ≡ record { number = 0; bits = readFrom st buf start end .bits; state = readFrom st buf start end .state })
+    × ((i : ℕ) → i < readFrom st buf start end .bits
+    → bitAt (writtenOver (writing st (readFrom st buf start end .contents) (length out)) st (readFrom st buf start end .contents) out) i
+    ≡ bitAt (range buf start end) i)
+read-writes = read-back
+
+-- 40, from a sound state, exactly where no payload that is read from it has the contents
+pub forty-is : (st : State) (c : Contents) (room : ℕ) → writing st c room .number ≡ 40
+    → (sound st ≡ true) × (ReadTo (payload (from st)) c → ⊥)
+forty-is = forty-exactly
+
+pub is-forty : (st : State) (c : Contents) (room : ℕ) → sound st ≡ true → (ReadTo (payload (from st)) c → ⊥)
+    → writing st c room ≡ unwritten 40 st
+is-forty = forty-only
 
 -- in a run from the fresh state 4 does not arise, and 1 only where a range is outside its buffer
 pub own-refusals : (es : List Event) (b : List ℕ) (start end : ℕ) → inBuffer start end (length b) ≡ true

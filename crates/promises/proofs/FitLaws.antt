@@ -2,7 +2,7 @@
 -- Assumes nothing.
 use Prim.Native.Nat.{ℕ, _+_, _*_, _-_, _<_, _≤_, _^_}
 use mathlib.Core.Path.{_≡_, refl, _∙_}
-use mathlib.Core.List.{List, [], _∷_, _++_}
+use mathlib.Core.List.{List, [], _∷_}
 use mathlib.Core.Bool.{Bool, true, false, _||_}
 use native.Mathlib.Omega.{arith}
 use borrow.Author.Tests.{leb-true, eqb-true}
@@ -20,7 +20,7 @@ use Rattle.bits.specs.Inside.{Fill, leftOver}
 use Rattle.bits.specs.Lists.{padded}
 use Rattle.bits.proofs.Bools.{and-both}
 use Rattle.bits.proofs.Signed.{fits}
-use Rattle.bits.proofs.Spelt.{Every, every-append, Filled, leftOver-spelt}
+use Rattle.bits.proofs.Spelt.{Every, every-append, leftOver-spelt}
 use Rattle.bits.proofs.Gives.{Gives, so-gives, give-gives, bind-gives, then-gives, map-gives, pick-gives, expecting-keeps}
 use Rattle.bits.proofs.Gives.{field-gives, inside-gives, listed-gives}
 use Rattle.stereo_indices.specs.Kind.{bands, least, most, within}
@@ -38,18 +38,16 @@ use Rattle.stereo.specs.Frame.{envelopeCount, noBorders, bordersOf, borders, fr
 use Rattle.stereo.specs.Extension.{noPhases, noBody, noPart, noExtension, phasesIn, phasesNext, phasesOf, phases, hasMode, phaseFlag, v0}
 use Rattle.stereo.specs.Extension.{another, part, announced, escCount, extensionSent, extension}
 use Rattle.stereo.specs.Payload.{envelopes, payload}
-use Rattle.stereo.specs.State.{freshSetup, fresh, sound}
+use Rattle.stereo.specs.State.{freshSetup, fresh}
 use Rattle.stereo.specs.Carried.{recordAfter, phaseRecords, carriedIn, carried}
 use Rattle.stereo.specs.declared.State.{State}
 use Rattle.stereo.specs.declared.Contents.{Contents}
 use Rattle.stereo.specs.declared.Switch.{Switch}
-use Rattle.stereo.specs.declared.Frame.{Frame}
-use Rattle.stereo.specs.declared.Phases.{Phases}
 use Rattle.stereo.specs.declared.Part.{Part}
 use Rattle.stereo.proofs.PayloadNear.{count-le}
 use Rattle.stereo.proofs.TurnLaws.{every-replicate, every-at}
-use Rattle.stereo_laws.proofs.SoundLaws.{Set, set-up, Parts, parts}
-use Rattle.c_layout.proofs.StateLaws.{SoundParts, sound-parts}
+use Rattle.stereo_laws.proofs.SoundLaws.{set-up, parts}
+use Rattle.c_layout.proofs.StateLaws.{sound-parts}
 use Rattle.stereo_writer.proofs.SpellingLaws.{another-spelt}
 use Rattle.c_layout.specs.Indices.{indicesAt}
 use Rattle.c_layout.specs.StateBytes.{recordAt, stateAt, soundBytes}
@@ -68,8 +66,8 @@ filled P m z xs h p f = (
   every-append P xs (replicate (m - length xs) z) f (every-replicate P (m - length xs) z p),
 )
 
-padded-fits : {A : Type 0} (P : A → Type 0) (f : List A → Reader A) → ((xs : List A) → Gives P (f xs)) → (z : A) (m n : ℕ) → n ≤ m → P z
-    → Gives (λ xs. (length xs ≡ m) × Every P xs) (listed n f >>= λ xs. give (padded m z xs))
+padded-fits : {A : Type 0} (P : A → Type 0) (f : List A → Reader A) → ((xs : List A) → Gives P (f xs)) → (z : A) (m n : ℕ)
+    → n ≤ m → P z → Gives (λ xs. (length xs ≡ m) × Every P xs) (listed n f >>= λ xs. give (padded m z xs))
 padded-fits P f g z m n h p = map-gives (padded m z) (listed-gives P f g n) λ xs q. filled P m z xs (omega (arith, q .0)) p (q .1)
 
 -- indices and rows
@@ -105,7 +103,8 @@ rows-fit k on m h n l =
 mode-gives : (on : ℕ) → Gives (λ m. m < 256) (mode on)
 unfolding mode
 mode-gives on =
-    pick-gives (eqb on 1) (λ e. expecting-keeps 13 (λ m. leb m 5) (so-gives (λ v h. omega arith) (field-gives 3))) (λ e. give-gives (omega arith))
+    pick-gives (eqb on 1) (λ e. expecting-keeps 13 (λ m. leb m 5) (so-gives (λ v h. omega arith) (field-gives 3)))
+    (λ e. give-gives (omega arith))
 
 abbrev SwitchFits : Switch → Type 0
 SwitchFits x = (x .on < 256) × (x .mode < 256)
@@ -296,7 +295,8 @@ sound-each k m i (x ∷ xs) e =
     index-fits true e = fits 15 (in-range-abs k m x e) (omega arith)
     index-fits false e = fits 0 (within-abs (pos 0) (pos 0) x 0 (omega arith) (omega arith) e) (omega arith)
 
-record-at-fits : (k : Kind) (s : List ℕ) (at : ℕ) → at + 35 ≤ length s → soundRecord k (recordAt s at) ≡ true → Fits (asRow (recordAt s at))
+record-at-fits : (k : Kind) (s : List ℕ) (at : ℕ) → at + 35 ≤ length s → soundRecord k (recordAt s at) ≡ true
+    → Fits (asRow (recordAt s at))
 unfolding soundRecord recordAt indicesAt
 record-at-fits k s at h e =
     let w = and-both (soundMode (getD s at 0)) _ e in

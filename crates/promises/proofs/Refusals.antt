@@ -34,7 +34,7 @@ use Rattle.bits.specs.Packed.{bytesFor}
 use Rattle.stereo_writer.proofs.PayloadNumbers.{payloadRefusals, whole-own}
 use Rattle.image.specs.declared.Header.{Header}
 use Rattle.image.specs.declared.Part.{Part}
-use Rattle.image.specs.Image.{indexOf, soundImage, headerOf, partOf}
+use Rattle.image.specs.Image.{countOf, indexOf, soundImage, headerOf, partOf}
 use Rattle.image_outline.specs.Outline.{outlineOf}
 use Rattle.c_layout.specs.StateBytes.{stateAt, soundBytes}
 use Rattle.c_layout.specs.ContentsBytes.{contentsAt}
@@ -149,9 +149,8 @@ part-answered s k =
 pub outline-answered : (s : List ℕ) (room : ℕ) → isAnswered (outlineOf s room .number) ≡ true
 unfolding outlineOf
 outline-answered s room =
-    let h = header-answered s in
-    picked (λ (h : Header). h .number) (eqb (headerOf s .number) 0) _ _
-    (picked (λ (h : Header). h .number) (leb (4 * headerOf s .count) room) _ _ h refl) h
+    picked (λ (h : Header). h .number) (soundImage s) _ _
+    (picked (λ (h : Header). h .number) (leb (4 * countOf s) room) _ _ (header-answered s) refl) refl
 
 -- of the functions for C
 call-answered : (size start end need room : ℕ) → isAnswered (callRefusal size start end need room) ≡ true

@@ -4,10 +4,9 @@
 use Prim.Native.Nat.{ℕ, _+_, _-_, _<_, _≤_}
 use mathlib.Core.Path.{_≡_, refl, sym, ap, _∙_}
 use mathlib.Core.List.{List, _++_}
-use mathlib.Core.Bool.{Bool, true, false, _||_}
+use mathlib.Core.Bool.{Bool, true, false}
 use native.Mathlib.Omega.{arith}
 use borrow.Author.Tests.{le-leb, eq-eqb}
-use lib.Dec.{eqb, leb}
 use lib.ListN.{length, take, drop, length-append}
 use lib.Seq.{take-append-seam}
 use Rattle.bits.specs.Bits.{bitAt}
@@ -27,7 +26,7 @@ use Rattle.stereo_reader.specs.declared.Reading.{Reading}
 use Rattle.stereo_writer.specs.declared.Written.{Written}
 use Rattle.stereo_writer.specs.Spelling.{spelling}
 use Rattle.stereo_writer.specs.Writing.{unwritten, writing, writtenOver}
-use Rattle.stereo_writer.proofs.WritingLaws.{success, write-read, read-write, forty, forty-only}
+use Rattle.stereo_writer.proofs.WritingLaws.{success, write-read, read-write, forty}
 use Rattle.promises.proofs.Acceptance.{in-range}
 
 -- the front of a buffer
@@ -54,7 +53,7 @@ module _ (st : State) (c : Contents) (out : List ℕ) where
       let l = packed-length (spelling (from st) c) in
       let b = success st c (length out) e .bits in
       ap (λ (s : List ℕ). bitAt s i) (over-is e)
-      ∙ sym (bit-take (payload (from st)) (xs ++ ys) (length xs) i (omega arith))
+      ∙ sym (bit-take (xs ++ ys) (length xs) i (omega arith))
       ∙ ap (λ (s : List ℕ). bitAt s i) (take-append-seam xs ys)
 
   -- read from the front of the buffer that it was written to
@@ -99,7 +98,3 @@ forty-exactly st c room e = (stands (sound st) _ e, forty st c room e)
     stands : (b : Bool) (x : Written) → pick b x (unwritten 4 st) .number ≡ 40 → b ≡ true
     stands true x q = refl
     stands false x q = absurd (omega arith)
-
-pub forty-where-none : (st : State) (c : Contents) (room : ℕ) → sound st ≡ true → (ReadTo (payload (from st)) c → ⊥)
-    → writing st c room ≡ unwritten 40 st
-forty-where-none = forty-only

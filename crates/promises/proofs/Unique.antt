@@ -1,69 +1,63 @@
--- Two results that a promise allows are equal: each promise is an equation for everything that the function gives.
+-- Two results that a promise allows are equal: the formula of each contract settles everything that the function gives.
 -- Assumes nothing.
 use Prim.Native.Nat.{ℕ}
 use mathlib.Core.Path.{_≡_, sym, _∙_, ap}
 use mathlib.Core.List.{List}
 use mathlib.Core.Bool.{Bool}
-use lib.ListN.{length}
 use denote.Ref.{RefT}
-use Rattle.image.specs.Image.{headerOf, partOf}
+use Rattle.image.specs.Image.{HeaderPromise, PartPromise}
 use Rattle.image.specs.declared.Header.{Header}
 use Rattle.image.specs.declared.Part.{Part}
 use Rattle.bit_reader.specs.Took.{tookAt}
 use Rattle.bit_reader.specs.declared.Took.{Took}
 use Rattle.bit_reader.specs.declared.BitReader.{BitReader}
-use Rattle.stereo.specs.State.{fresh, sound}
-use Rattle.stereo_reader.specs.Reading.{readFrom, missing}
+use Rattle.stereo.specs.State.{FreshPromise, SoundPromise}
+use Rattle.stereo_reader.specs.Reading.{ReadPromise, MissingPromise}
 use Rattle.stereo.specs.declared.State.{State}
 use Rattle.stereo.specs.declared.Contents.{Contents}
 use Rattle.stereo_reader.specs.declared.Reading.{Reading}
 use Rattle.stereo_reader.specs.declared.Report.{Report}
-use Rattle.stereo_writer.specs.Writing.{writing, writtenOver}
+use Rattle.stereo_writer.specs.Writing.{writtenOver, WritePromise}
 use Rattle.stereo_writer.specs.declared.Written.{Written}
-use Rattle.stereo_lent.specs.Lent.{answerOf}
+use Rattle.stereo_lent.specs.Lent.{LentReadPromise, LentMissingPromise}
 use Rattle.stereo_lent.specs.declared.Answer.{Answer}
 
 module _ (st : State) where
-  pub one-fresh : (r r′ : State) → r ≡ fresh → r′ ≡ fresh → r ≡ r′
+  pub one-fresh : (r r′ : State) → FreshPromise r → FreshPromise r′ → r ≡ r′
   one-fresh r r′ p q = p ∙ sym q
 
-  pub one-verdict : (r r′ : Bool) → r ≡ sound st → r′ ≡ sound st → r ≡ r′
+  pub one-verdict : (r r′ : Bool) → SoundPromise st r → SoundPromise st r′ → r ≡ r′
   one-verdict r r′ p q = p ∙ sym q
 
-  pub one-report : (r r′ : Report) → r ≡ missing st → r′ ≡ missing st → r ≡ r′
+  pub one-report : (r r′ : Report) → MissingPromise st r → MissingPromise st r′ → r ≡ r′
   one-report r r′ p q = p ∙ sym q
 
-  pub one-reading : (bytes : List ℕ) (start end : ℕ) (r r′ : Reading) → r ≡ readFrom st bytes start end
-      → r′ ≡ readFrom st bytes start end → r ≡ r′
+  pub one-reading : (bytes : List ℕ) (start end : ℕ) (r r′ : Reading) → ReadPromise st bytes start end r → ReadPromise st bytes start end r′
+      → r ≡ r′
   one-reading bytes start end r r′ p q = p ∙ sym q
 
   -- the answer, and the lent buffer afterwards
-  pub one-writing : (c : Contents) (before after after′ : List ℕ) (r r′ : Written)
-      → (r ≡ writing st c (length before)) × (after ≡ writtenOver r st c before)
-      → (r′ ≡ writing st c (length before)) × (after′ ≡ writtenOver r′ st c before)
-      → (r ≡ r′) × (after ≡ after′)
+  pub one-writing : (c : Contents) (before after after′ : List ℕ) (r r′ : Written) → WritePromise before st c r after
+      → WritePromise before st c r′ after′ → (r ≡ r′) × (after ≡ after′)
   one-writing c before after after′ r r′ p q =
       let e = p .0 ∙ sym (q .0) in
       (e, p .1 ∙ ap (λ (w : Written). writtenOver w st c before) e ∙ sym (q .1))
 
   -- the answer, and the lent state afterwards
   pub one-lent-reading : (bytes : List ℕ) (start end : ℕ) (r r′ : Answer) (after after′ : State)
-      → (r ≡ answerOf (readFrom st bytes start end)) × (after ≡ readFrom st bytes start end .state)
-      → (r′ ≡ answerOf (readFrom st bytes start end)) × (after′ ≡ readFrom st bytes start end .state)
-      → (r ≡ r′) × (after ≡ after′)
+      → LentReadPromise st bytes start end r after → LentReadPromise st bytes start end r′ after′ → (r ≡ r′) × (after ≡ after′)
   one-lent-reading bytes start end r r′ after after′ p q = (p .0 ∙ sym (q .0), p .1 ∙ sym (q .1))
 
-  pub one-lent-report : (r r′ : ℕ) (after after′ : State) → (r ≡ missing st .number) × (after ≡ missing st .state)
-      → (r′ ≡ missing st .number) × (after′ ≡ missing st .state)
+  pub one-lent-report : (r r′ : ℕ) (after after′ : State) → LentMissingPromise st r after → LentMissingPromise st r′ after′
       → (r ≡ r′) × (after ≡ after′)
   one-lent-report r r′ after after′ p q = (p .0 ∙ sym (q .0), p .1 ∙ sym (q .1))
 
 -- of a tag image
-pub one-header : (image : List ℕ) (r r′ : Header) → r ≡ headerOf image → r′ ≡ headerOf image → r ≡ r′
+pub one-header : (image : List ℕ) (r r′ : Header) → HeaderPromise image r → HeaderPromise image r′ → r ≡ r′
 one-header image r r′ p q = p ∙ sym q
 
-pub one-part : (image : List ℕ) (k : ℕ) (r r′ : Part) → r ≡ partOf image k → r′ ≡ partOf image k → r ≡ r′
-one-part image k r r′ p q = p ∙ sym q
+pub one-part : (image : List ℕ) (k : ℕ) (r r′ : Part) → PartPromise image k r → PartPromise image k r′ → r ≡ r′
+one-part image k r r′ p q = p .0 ∙ sym (q .0)
 
 -- of a field of the bit reader: what was taken, and where the reader then stands
 pub one-field : (bytes : List ℕ) (at n : ℕ) (t t′ : Took) (next next′ : ℕ) → (t ≡ tookAt bytes at n) × (next ≡ t .next)

@@ -1,4 +1,5 @@
--- Runs of calls: the reader by value, over a lent state, and for C over the bytes that a handset keeps; and the stereo payloads of an image.
+-- Runs of calls: the reader by value, over a lent state, and for C over the bytes that a handset keeps; and the stereo payloads of an
+-- image.
 use Prim.Native.Nat.{ℕ, zero, suc}
 use mathlib.Core.Path.{_≡_}
 use mathlib.Core.List.{List, [], _∷_, _++_}

@@ -18,7 +18,8 @@ pub after-append : {S C : Type 0} (M : Machine S C) (st : S) (es fs : List Event
 after-append M st [] fs = refl
 after-append M st (e ∷ es) fs = after-append M (turn M st e .state) es fs
 
-pub run-append : {S C : Type 0} (M : Machine S C) (st : S) (es fs : List Event) → run M st (es ++ fs) ≡ run M st es ++ run M (after M st es) fs
+pub run-append : {S C : Type 0} (M : Machine S C) (st : S) (es fs : List Event)
+    → run M st (es ++ fs) ≡ run M st es ++ run M (after M st es) fs
 run-append M st [] fs = refl
 run-append {S} {C} M st (e ∷ es) fs = ap (λ (ts : List (Turn S C)). turn M st e ∷ ts) (run-append M (turn M st e .state) es fs)
 
@@ -27,7 +28,8 @@ run-long M st [] = refl
 run-long M st (e ∷ es) = ap suc (run-long M (turn M st e .state) es)
 
 -- what a run comes to after its first events
-pub run-from : {S C : Type 0} (M : Machine S C) (st : S) (es fs : List Event) → drop (length es) (run M st (es ++ fs)) ≡ run M (after M st es) fs
+pub run-from : {S C : Type 0} (M : Machine S C) (st : S) (es fs : List Event)
+    → drop (length es) (run M st (es ++ fs)) ≡ run M (after M st es) fs
 run-from {S} {C} M st es fs =
     ap (drop (length es)) (run-append M st es fs)
     ∙ ap (λ (n : ℕ). drop n (run M st es ++ run M (after M st es) fs)) (sym (run-long M st es) ∙ sym (add-zero (length (run M st es))))

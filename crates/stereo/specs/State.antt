@@ -1,5 +1,6 @@
 -- The state that is carried from payload to payload.
 use Prim.Native.Nat.{ℕ}
+use mathlib.Core.Path.{_≡_}
 use mathlib.Core.Bool.{Bool, true, false, not, _&&_, _||_}
 use Rattle.stereo_indices.specs.Record.{isNone, none, soundMode, soundRecord}
 use Rattle.stereo_indices.specs.declared.Kind.the-variants.{Iid, Icc, Ipd, Opd}
@@ -31,3 +32,10 @@ sound st = soundSetup (st .setup) && soundRecord Iid (st .iid) && soundRecord Ic
 -- out of step, and nothing else touched
 abbrev pub lost : State → State
 lost st = record { setup = st .setup; iid = st .iid; icc = st .icc; ipd = st .ipd; opd = st .opd; instep = false }
+
+-- what is promised of the state before any payload, and of the verdict on a state
+abbrev pub FreshPromise : State → Type 0
+FreshPromise r = r ≡ fresh
+
+abbrev pub SoundPromise : State → Bool → Type 0
+SoundPromise st r = r ≡ sound st

@@ -1,7 +1,7 @@
 // The stereo state: fresh, sound, out of step.
 ghost use mathlib.Core.Path.{_≡_};
 ghost use mathlib.Core.Bool.{not, _||_};
-ghost use Rattle.stereo.specs.State.{isSent, freshSetup, fresh, soundSetup, sound, lost};
+ghost use Rattle.stereo.specs.State.{isSent, soundSetup, lost, FreshPromise, SoundPromise};
 use crate::Setup;
 use crate::State;
 use stereo_indices::Kind;
@@ -9,7 +9,7 @@ use stereo_indices::records;
 
 // The state before any payload.
 pub fn fresh() -> State
-    ensures { λ r. ⌜ r ≡ fresh ⌝ }
+    ensures { λ r. ⌜ FreshPromise r ⌝ }
 {
     let setup = Setup {
         iid: false,
@@ -57,7 +57,7 @@ fn is_sound_setup(setup: Setup) -> bool
 
 // Whether a state is sound.
 pub fn is_sound(state: State) -> bool
-    ensures { λ r. ⌜ r ≡ sound state ⌝ }
+    ensures { λ r. ⌜ SoundPromise state r ⌝ }
 {
     let setup = state.setup;
     if !is_sound_setup(setup) {

@@ -1,4 +1,9 @@
 -- What a call answers beside the lent state.
+use Prim.Native.Nat.{ℕ}
+use mathlib.Core.Path.{_≡_}
+use mathlib.Core.List.{List}
+use Rattle.stereo.specs.declared.State.{State}
+use Rattle.stereo_reader.specs.Reading.{readFrom, missing}
 use Rattle.stereo_reader.specs.declared.Reading.{Reading}
 use Rattle.stereo_lent.specs.declared.Answer.{Answer}
 use Rattle.stereo_lent.specs.declared.Apart.{Apart}
@@ -10,3 +15,10 @@ answerOf r = record { number = r .number; bits = r .bits; contents = r .contents
 -- a reading, its state apart
 abbrev pub apartOf : Reading → Apart
 apartOf r = record { state = r .state; answer = answerOf r }
+
+-- what is promised of a payload and of a report: the answer, and the lent state afterwards
+abbrev pub LentReadPromise : State → List ℕ → ℕ → ℕ → Answer → State → Type 0
+LentReadPromise st bytes start end r after = (r ≡ answerOf (readFrom st bytes start end)) × (after ≡ readFrom st bytes start end .state)
+
+abbrev pub LentMissingPromise : State → ℕ → State → Type 0
+LentMissingPromise st r after = (r ≡ missing st .number) × (after ≡ missing st .state)

@@ -1,7 +1,7 @@
 // The stereo reader over a state that is lent: the caller keeps one state, and each call leaves the next one in it.
 ghost use mathlib.Core.Path.{_≡_};
-ghost use Rattle.stereo_reader.specs.Reading.{readFrom, missing};
-ghost use Rattle.stereo_lent.specs.Lent.{answerOf, apartOf};
+ghost use Rattle.stereo_reader.specs.Reading.{readFrom};
+ghost use Rattle.stereo_lent.specs.Lent.{apartOf, LentReadPromise, LentMissingPromise};
 use stereo::Contents;
 use stereo::State;
 
@@ -38,8 +38,7 @@ fn read_apart(state: State, bytes: &[u8], start: usize, end: usize) -> Apart
 
 // A payload in a range of a buffer: what it holds and how many bits it used; the lent state is then the next one.
 pub fn read(state: &mut State, bytes: &[u8], start: usize, end: usize) -> Answer
-    ensures { λ r. ⌜ (r ≡ answerOf (readFrom (now (state .entry)) (now (bytes .entry)) start end))
-        × (now (state .exit) ≡ readFrom (now (state .entry)) (now (bytes .entry)) start end .state) ⌝ }
+    ensures { λ r. ⌜ LentReadPromise (now (state .entry)) (now (bytes .entry)) start end r (now (state .exit)) ⌝ }
 {
     let a = read_apart(*state, bytes, start, end);
     *state = a.state;
@@ -48,7 +47,7 @@ pub fn read(state: &mut State, bytes: &[u8], start: usize, end: usize) -> Answer
 
 // A payload reported missing: the refusal, or 0; the lent state is then the next one.
 pub fn missing(state: &mut State) -> u8
-    ensures { λ r. ⌜ (r ≡ missing (now (state .entry)) .number) × (now (state .exit) ≡ missing (now (state .entry)) .state) ⌝ }
+    ensures { λ r. ⌜ LentMissingPromise (now (state .entry)) r (now (state .exit)) ⌝ }
 {
     let r = stereo_reader::missing(*state);
     *state = r.state;

@@ -1,5 +1,6 @@
 -- What the stereo reader answers: a payload in step or out of step, and a payload reported missing.
 use Prim.Native.Nat.{ℕ}
+use mathlib.Core.Path.{_≡_}
 use mathlib.Core.List.{List}
 use mathlib.Core.Bool.{_||_}
 use lib.ListN.{length}
@@ -44,3 +45,10 @@ readFrom st bytes start end =
 -- a payload reported missing: refused only with 4
 unfoldable pub missing : State → Report
 missing st = pick (sound st) (record { number = 0; state = lost st }) (record { number = 4; state = st })
+
+-- what is promised of a payload in a range of a buffer, and of a report
+abbrev pub ReadPromise : State → List ℕ → ℕ → ℕ → Reading → Type 0
+ReadPromise st bytes start end r = r ≡ readFrom st bytes start end
+
+abbrev pub MissingPromise : State → Report → Type 0
+MissingPromise st r = r ≡ missing st

@@ -4,7 +4,7 @@ ghost use mathlib.Core.Bool.{_||_};
 ghost use Prim.Native.Nat.{min};
 ghost use Rattle.stereo.specs.State.{lost};
 ghost use Rattle.stereo.specs.Restart.{restart};
-ghost use Rattle.stereo_reader.specs.Reading.{from, refusal, taken, readBytes, readFrom, missing};
+ghost use Rattle.stereo_reader.specs.Reading.{from, refusal, taken, readBytes, ReadPromise, MissingPromise};
 use bits::Ended;
 use stereo::Contents;
 use stereo::State;
@@ -124,7 +124,7 @@ pub fn read_bytes(state: State, s: &[u8]) -> Reading
 
 // A payload in a range of a buffer: what it holds, how many bits it used, and the next state.
 pub fn read(state: State, bytes: &[u8], start: usize, end: usize) -> Reading
-    ensures { λ r. ⌜ r ≡ readFrom state (now (bytes .entry)) start end ⌝ }
+    ensures { λ r. ⌜ ReadPromise state (now (bytes .entry)) start end r ⌝ }
 {
     if end < start {
         return refused(1, state);
@@ -140,7 +140,7 @@ pub fn read(state: State, bytes: &[u8], start: usize, end: usize) -> Reading
 
 // A payload reported missing.
 pub fn missing(state: State) -> Report
-    ensures { λ r. ⌜ r ≡ missing state ⌝ }
+    ensures { λ r. ⌜ MissingPromise state r ⌝ }
 {
     if !states::is_sound(state) {
         return Report { number: 4, state };

@@ -1,9 +1,10 @@
 -- The stereo writer: refusals in the order 4, 40, 35, 2.
 use Prim.Native.Nat.{ℕ}
+use mathlib.Core.Path.{_≡_}
 use mathlib.Core.List.{List, _++_}
 use mathlib.Core.Bool.{Bool, _||_}
 use lib.Dec.{eqb, leb}
-use lib.ListN.{drop}
+use lib.ListN.{length, drop}
 use Rattle.bits.specs.Reader.{pick}
 use Rattle.bits.specs.Pieces.{total}
 use Rattle.bits.specs.Packed.{bytesFor, packed}
@@ -45,3 +46,7 @@ writing st c room =
 unfoldable pub writtenOver : Written → State → Contents → List ℕ → List ℕ
 writtenOver w st c out =
     pick (eqb (w .number) 0) (packed (spelling (from st) c) ++ drop (bytesFor (total (spelling (from st) c))) out) out
+
+-- what is promised of the writer: the answer, and the lent buffer afterwards
+abbrev pub WritePromise : List ℕ → State → Contents → Written → List ℕ → Type 0
+WritePromise out st c r after = (r ≡ writing st c (length out)) × (after ≡ writtenOver r st c out)

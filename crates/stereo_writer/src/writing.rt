@@ -9,7 +9,7 @@ ghost use Rattle.tables.specs.Tables.{Tables};
 ghost use Rattle.stereo.specs.Payload.{payload};
 ghost use Rattle.stereo_writer.specs.Spelling.{spelling};
 ghost use Rattle.stereo_writer.specs.Same.{sameContents};
-ghost use Rattle.stereo_writer.specs.Writing.{canWrite, unwritten, writing, writtenOver};
+ghost use Rattle.stereo_writer.specs.Writing.{canWrite, unwritten, WritePromise};
 use crate::Spelled;
 use crate::Written;
 use crate::payloads::put_contents;
@@ -77,8 +77,7 @@ fn spell(scratch: &mut [u8], state: State, contents: Contents) -> Spelled
 
 // Contents written from a state into a lent buffer: the refusal, or 0, how many bits were written, and the next state.
 pub fn write(out: &mut [u8], state: State, contents: Contents) -> Written
-    ensures { λ r. ⌜ (r ≡ writing state contents (length (now (out .entry))))
-        × (now (out .exit) ≡ writtenOver r state contents (now (out .entry))) ⌝ }
+    ensures { λ r. ⌜ WritePromise (now (out .entry)) state contents r (now (out .exit)) ⌝ }
 {
     if !states::is_sound(state) {
         return refused(4, state);

@@ -1,4 +1,4 @@
--- The header's refusal stands; else the payload's offset and the next one are its range, which lies in the image.
+-- The header's refusal stands; else the payload's offset and the next one, pairs of bytes, are its range, which lies in the image.
 use Prim.Native.Nat.{_+_, _*_, _<_, _≤_}
 use mathlib.Core.Path.{_≡_, _∙_}
 use native.Mathlib.Omega.{arith}
@@ -14,13 +14,17 @@ returns : tie.Need-returns
 unfolding partOf
 returns c =
     let h = c .before .read-header in
-    (rw (← (h .ensures), ne-eqb _ _ (c .if1 .taken)), omega arith, omega arith)
+    (rw (← (h .ensures), ne-eqb _ _ (c .if1 .taken)), omega arith, omega arith, omega arith)
 
 returns-2 : tie.Need-returns-2
 unfolding partOf
 returns-2 c =
-    let h = c .before .before .before .read-header in
-    (rw (← (h .ensures), eq-eqb (h .result .number) 0 (c .before .before .if1 .left), le-ltb _ _ (c .if2 .taken)), omega arith, omega arith)
+    let h = c .before .before .before .read-header in (
+      rw (← (h .ensures), eq-eqb (h .result .number) 0 (c .before .before .if1 .left), le-ltb _ _ (c .if2 .taken)),
+      omega arith,
+      omega arith,
+      omega arith,
+    )
 
 abbrev start : tie.Else2 → tie.Start
 start c = c .before .before .before .before .before
@@ -72,6 +76,7 @@ returns-3 c =
       ),
       rw (a, b) (part-order s (f .0) (x .k) (f .1)),
       rw b (part-inside s (f .0) (x .k) (f .1)),
+      c .pair-at2 .ensures .1,
     )
 
 pub part-of-spec : {M : Type 1} → statement M

@@ -56,7 +56,7 @@ moved : (m : tie.After-middle) → toZ w16 (ofZ w16 (codeStep (start m .args .x)
 moved m = step-thru (start m .args .kind) (start m .args .mode) _ _ _ (start m .fits .x) (start m .fits .y) (m .middle .ensures)
 
 -- and its magnitude the entry, where no phase is written
-level : (m : tie.After-middle) → entryTo (start m .args .kind) (start m .args .mode) (start m .args .x) (start m .args .y) ≡ natAbs (asked m)
+level : (m : tie.After-middle) → let a = start m .args in entryTo (a .kind) (a .mode) (a .x) (a .y) ≡ natAbs (asked m)
 unfolding entryTo
 level m = rw (sym (m .before .before .is-phase .ensures) ∙ m .before .if1 .left)
 
