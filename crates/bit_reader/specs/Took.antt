@@ -16,6 +16,6 @@ abbrev pub tookOf : Answer ℕ → ℕ → Took
 tookOf (got v next) at = record { number = 0; value = v; next = next }
 tookOf (refused n place) at = record { number = n; value = 0; next = at }
 
--- n bits; more than 20 are never there
+-- n bits; more than 32 are answered 10, as if they weren't there: the number that an answer holds has 32 bits
 unfoldable pub tookAt : List ℕ → ℕ → ℕ → Took
-tookAt s at n = tookOf (pick (leb n 20) (field n s at (lastPlace s)) (refused 10 at)) at
+tookAt s at n = tookOf (pick (leb n 32) (field n s at (lastPlace s)) (refused 10 at)) at

@@ -1,7 +1,9 @@
 // A bit reader that keeps a payload and its place together, above the plain one.
 ghost use mathlib.Core.Path.{_≡_};
-ghost use Prim.Native.Nat.{_≤_, _*_};
+ghost use Prim.Native.Nat.{_<_, _≤_, _*_};
 ghost use lib.ListN.{length};
+ghost use Rattle.bits.specs.Field.{field};
+ghost use Rattle.bits.specs.InnerAnswers.{fieldAnswer};
 ghost use Rattle.bit_reader.specs.Took.{lastPlace, tookAt};
 use bits::Field;
 
@@ -39,14 +41,39 @@ fn refused(number: u8, at: usize) -> Took
     }
 }
 
+// A field of 21 to 32 bits, as two plain ones: its first bits, and its last 20; where either isn't there, neither is taken.
+fn wide_field(src: &[u8], at: usize, end: usize, n: usize) -> Field
+    requires { ⌜ (end ≤ 8 * length (now src)) × (20 < n) × (n ≤ 32) ⌝ }
+    ensures { λ r. ⌜ fieldAnswer r ≡ field n (now (src .entry)) at end ⌝ }
+{
+    let Field::Got(high, middle) = bits::read_field(src, at, end, n - 20) else {
+        return Field::Refused(10, at);
+    };
+    let Field::Got(low, next) = bits::read_field(src, middle, end, 20) else {
+        return Field::Refused(10, at);
+    };
+    Field::Got(high * 1048576 + low, next)
+}
+
+// A field of at most 32 bits: a plain one up to 20 bits, else a wide one.
+fn any_field(src: &[u8], at: usize, end: usize, n: usize) -> Field
+    requires { ⌜ (end ≤ 8 * length (now src)) × (n ≤ 32) ⌝ }
+    ensures { λ r. ⌜ fieldAnswer r ≡ field n (now (src .entry)) at end ⌝ }
+{
+    if 20 < n {
+        return wide_field(src, at, end, n);
+    }
+    bits::read_field(src, at, end, n)
+}
+
 // The field of n bits at a place of a payload.
 pub fn took_at(src: &[u8], at: usize, n: usize) -> Took
     ensures { λ r. ⌜ r ≡ tookAt (now (src .entry)) at n ⌝ }
 {
-    if 20 < n {
+    if 32 < n {
         return refused(10, at);
     }
-    let f = bits::read_field(src, at, last_place(src), n);
+    let f = any_field(src, at, last_place(src), n);
     match f {
         Field::Got(value, next) => Took {
             number: 0,

@@ -125,7 +125,7 @@ module _ (st : State) where
 -- of the bit reader
 pub take-answered : (s : List ℕ) (at n : ℕ) → isAnswered (tookAt s at n .number) ≡ true
 unfolding tookAt field
-take-answered s at n = by-tests (leb n 20) (leb (at + n) (lastPlace s))
+take-answered s at n = by-tests (leb n 32) (leb (at + n) (lastPlace s))
   where
     by-tests : (a b : Bool)
         → isAnswered (tookOf (pick a (pick b (got (bitsFrom s at n) (at + n)) (refused 10 at)) (refused 10 at)) at .number) ≡ true

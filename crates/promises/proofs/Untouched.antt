@@ -68,7 +68,7 @@ module _ (s : List ℕ) (at n : ℕ) where
 
   pub take-untouched : tookAt s at n .number ≢ 0 → tookAt s at n ≡ record { number = 10; value = 0; next = at }
   unfolding tookAt field
-  take-untouched = took-refused (leb n 20) (leb (at + n) (lastPlace s))
+  take-untouched = took-refused (leb n 32) (leb (at + n) (lastPlace s))
 
 -- a payload's own numbers are 10 and above
 late : (n : ℕ) → oneOf payloadRefusals n ≡ true → leb 10 n ≡ true
