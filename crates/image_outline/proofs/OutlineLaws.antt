@@ -1,17 +1,18 @@
 -- One payload more: its part, its row, the state after it; and how an outline ends.
 -- Assumes nothing.
-use Prim.Native.Nat.{ℕ, suc, _+_, _*_, _<_, _≤_}
+use Prim.Native.Nat.{ℕ, zero, suc, _+_, _*_, _<_, _≤_}
 use mathlib.Core.Path.{_≡_, refl, sym, ap, _∙_}
 use mathlib.Core.List.{List, _++_}
 use mathlib.Core.Bool.{Bool, true, false}
 use native.Mathlib.Omega.{arith}
 use native.Mathlib.Numerals.{add-one}
 use borrow.Author.Tests.{lt-ltb, le-leb, lt-leb, ne-eqb}
-use lib.Dec.{leb}
+use lib.Dec.{eqb, leb, ltb}
 use lib.ListN.{length}
 use Rattle.bits.specs.Reader.{pick}
-use Rattle.image.specs.Image.{countOf, offsetOf, soundImage, refusedHeader, headerOf, partOf, bytesOf}
+use Rattle.image.specs.Image.{countOf, offsetOf, soundImage, refusedHeader, refusedPart, headerOf, partOf, bytesOf}
 use Rattle.image.specs.declared.Header.{Header}
+use Rattle.image.specs.declared.Part.{Part}
 use Rattle.image.proofs.ImageLaws.{header-sound, header-5, header-not-5}
 use Rattle.bits.specs.Bytes.{over}
 use Rattle.image_outline.specs.Answers.{stateFrom, stateBefore}
@@ -24,8 +25,12 @@ soundHeader count index = record { number = 0; count = count; index = index }
 pub sound-header : (h : Header) → h .number ≡ 0 → h ≡ soundHeader (h .count) (h .index)
 sound-header h e = ap (λ (n : ℕ). record { number = n; count = h .count; index = h .index }) e
 
+-- where the k-th payload of an image stands
+abbrev pub placeOf : List ℕ → ℕ → Part
+placeOf s k = record { number = 0; start = offsetOf s k; end = offsetOf s (k + 1) }
+
 module _ (s : List ℕ) (count index k : ℕ) (h : headerOf s ≡ soundHeader count index) where
-  pub part-there : k < count → partOf s k ≡ record { number = 0; start = offsetOf s k; end = offsetOf s (k + 1) }
+  pub part-there : k < count → partOf s k ≡ placeOf s k
   unfolding partOf
   part-there b = rw (h, lt-ltb k count b)
 
@@ -74,13 +79,32 @@ module _ (s rows : List ℕ) where
     unfolding rowsAfter
     outlined h z = (fits h, rw (← fits h, z))
 
--- an outline that is answered has few payloads
-pub outline-few : (s : List ℕ) (room : ℕ) → outlineOf s room .number ≡ 0 → outlineOf s room .count ≤ 1024
+-- an outline that is answered is the image's header
+pub outline-header : (s : List ℕ) (room : ℕ) → outlineOf s room .number ≡ 0 → outlineOf s room ≡ headerOf s
 unfolding outlineOf
-outline-few s room = go (soundImage s) (leb (4 * countOf s) room)
+outline-header s room = go (soundImage s) (leb (4 * countOf s) room)
   where
     go : (a b : Bool) → pick a (pick b (headerOf s) (refusedHeader 2)) (refusedHeader 5) .number ≡ 0
-        → pick a (pick b (headerOf s) (refusedHeader 2)) (refusedHeader 5) .count ≤ 1024
-    go true true e = let k = header-sound s e in omega (arith, k .0 .few, k .1)
+        → pick a (pick b (headerOf s) (refusedHeader 2)) (refusedHeader 5) ≡ headerOf s
+    go true true e = refl
     go true false e = absurd (omega arith)
     go false b e = absurd (omega arith)
+
+-- and has few payloads
+pub outline-few : (s : List ℕ) (room : ℕ) → outlineOf s room .number ≡ 0 → outlineOf s room .count ≤ 1024
+outline-few s room e =
+    let h = outline-header s room e in
+    let known = header-sound s (rw h at e) in
+    rw h (omega (arith, known .0 .few, known .1))
+
+-- a payload that is there stands from its offset to the next
+placed : (s : List ℕ) (k : ℕ) (b : Bool) (n : ℕ)
+    → pick (eqb n 0) (pick b (placeOf s k) (refusedPart 1)) (refusedPart n) .number ≡ 0
+    → pick (eqb n 0) (pick b (placeOf s k) (refusedPart 1)) (refusedPart n) ≡ placeOf s k
+placed s k true zero e = refl
+placed s k false zero e = absurd (omega arith)
+placed s k b (suc n) e = absurd (omega (arith, rw (ne-eqb (suc n) 0 (λ q. absurd (omega arith))) at e))
+
+pub part-is : (s : List ℕ) (k : ℕ) → partOf s k .number ≡ 0 → partOf s k ≡ placeOf s k
+unfolding partOf
+part-is s k = placed s k (ltb k (headerOf s .count)) (headerOf s .number)

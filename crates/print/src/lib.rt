@@ -1,7 +1,11 @@
 // A tag image on standard input, printed: the line of each payload, and in full what it holds and the stereo state after it.
+ghost use mathlib.Core.Path.{_≡_};
 ghost use Prim.Native.Nat.{_≤_, _<_};
 ghost use lib.ListN.{length};
+ghost use Rattle.image.specs.Image.{headerOf, partOf, bytesOf};
+ghost use Rattle.image_outline.specs.Answers.{stateFrom};
 ghost use Rattle.io.specs.Counts.{Counts};
+ghost use Rattle.print.specs.InnerStates.{stateAt, stateAfter};
 use stereo::State;
 use stereo::states;
 
@@ -17,17 +21,18 @@ struct Printed {
 
 // What the k-th payload holds, from the state before it; the state after it comes back.
 fn print_details(ok: bool, image: &[u8], k: usize, index: u8, state: State) -> Printed
-    requires { ⌜ length (now image) ≤ 65535 ⌝ }
+    requires { ⌜ (length (now image) ≤ 65535) × (partOf (now image) k .number ≡ 0) ⌝ }
+    ensures { λ r. ⌜ r .state ≡ stateFrom state k (bytesOf (now (image .entry)) k) ⌝ }
 {
     let part = image::part_of(image, k);
     let start = part.start;
     let end = part.end;
     let bytes = &image[start..end];
-    if k % 2 == 1 {
-        return stereos::print_stereo(ok, state, bytes);
+    if k % 2 == 0 {
+        let written = channels::print_channel(ok, bytes, index);
+        return Printed { written, state };
     }
-    let written = channels::print_channel(ok, bytes, index);
-    Printed { written, state }
+    stereos::print_stereo(ok, state, bytes)
 }
 
 // The k-th payload's line, from its four numbers in the outline.
@@ -47,7 +52,9 @@ fn print_payload(
     full: bool,
     state: State,
 ) -> Printed
-    requires { ⌜ (length (now image) ≤ 65535) × (k < 1024) × (4096 ≤ length (now rows)) ⌝ }
+    requires { ⌜ (length (now image) ≤ 65535) × (k < 1024) × (4096 ≤ length (now rows))
+        × (partOf (now image) k .number ≡ 0) × (state ≡ stateAt full (now image) k) ⌝ }
+    ensures { λ r. ⌜ r .state ≡ stateAfter full state k (bytesOf (now (image .entry)) k) ⌝ }
 {
     let written = print_line(k, rows);
     if full {
@@ -58,7 +65,8 @@ fn print_payload(
 
 // The payloads of an image that has this outline, in their order, up to the first line that is not written; whether all were.
 fn print_payloads(image: &[u8], count: usize, index: u8, rows: &[usize], full: bool) -> bool
-    requires { ⌜ (length (now image) ≤ 65535) × (count ≤ 1024) × (4096 ≤ length (now rows)) ⌝ }
+    requires { ⌜ (length (now image) ≤ 65535) × (count ≤ 1024) × (4096 ≤ length (now rows))
+        × (headerOf (now image) ≡ record { number = 0; count = count; index = index }) ⌝ }
 {
     let mut state = states::fresh();
     let mut k = 0;

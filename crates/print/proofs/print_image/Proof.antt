@@ -1,8 +1,9 @@
--- An outline that is answered has at most 1,024 payloads, so its rows are all there.
+-- An outline that is answered is that of the image's header and has at most 1,024 payloads, so its rows are all there.
 -- Assumes nothing.
 use Prim.Native.Nat.{_≤_}
+use mathlib.Core.Path.{sym, _∙_}
 use lib.ListN.{length}
-use Rattle.image_outline.proofs.OutlineLaws.{outline-few}
+use Rattle.image_outline.proofs.OutlineLaws.{sound-header, outline-header, outline-few}
 use borrow.Author.Needs.{needs}
 use Rattle.print.proofs.print_image.Statement.{statement}
 use Rattle.print.proofs.print_image.Tie as tie
@@ -14,7 +15,12 @@ print-payloads-requires c κs =
     let outline = read .read-image .ensures .0 in
     let long : 4096 ≤ length (read .read-image .last .1 .0) = search needs in
     let zero = rw outline at (c .before .before .before .if1 .left) in
-    (read .before .before .before .pre, rw outline (outline-few (a .image .now) 4096 zero), long)
+    let header = outline ∙ outline-header (a .image .now) 4096 zero in (
+      read .before .before .before .pre,
+      rw outline (outline-few (a .image .now) 4096 zero),
+      long,
+      sym header ∙ sound-header (read .read-image .result) (c .before .before .before .if1 .left),
+    )
 
 pub print-image-spec : {M : Type 1} → statement M
 print-image-spec =
