@@ -4,7 +4,7 @@ ghost use Prim.Native.Nat.{_<_, _≤_, _*_};
 ghost use lib.ListN.{length};
 ghost use Rattle.bits.specs.Field.{field};
 ghost use Rattle.bits.specs.InnerAnswers.{fieldAnswer};
-ghost use Rattle.bit_reader.specs.Took.{lastPlace, tookAt};
+ghost use Rattle.bit_reader.specs.Took.{lastPlace, HoldPromise, TookAtPromise, TakePromise};
 use bits::Field;
 
 // The payload, and the place of the next bit.
@@ -68,7 +68,7 @@ fn any_field(src: &[u8], at: usize, end: usize, n: usize) -> Field
 
 // The field of n bits at a place of a payload.
 pub fn took_at(src: &[u8], at: usize, n: usize) -> Took
-    ensures { λ r. ⌜ r ≡ tookAt (now (src .entry)) at n ⌝ }
+    ensures { λ r. ⌜ TookAtPromise (now (src .entry)) at n r ⌝ }
 {
     if 32 < n {
         return refused(10, at);
@@ -86,15 +86,14 @@ pub fn took_at(src: &[u8], at: usize, n: usize) -> Took
 
 // A reader at the first bit of a payload.
 pub fn hold<'a>(src: &'a [u8]) -> BitReader<'a>
-    ensures { λ r. ⌜ (r .src ≡ src .entry) × (r .at ≡ 0) ⌝ }
+    ensures { λ r. ⌜ HoldPromise (src .entry) r ⌝ }
 {
     BitReader { src, at: 0 }
 }
 
 // The next field of n bits is taken, and the reader moved past it; a refusal leaves it where it was.
 pub fn take<'s, 'a>(r: &'s mut BitReader<'a>, n: usize) -> Took
-    ensures { λ t. ⌜ (t ≡ tookAt (now (now (r .entry) .src)) (now (r .entry) .at) n)
-        × (now (r .exit) .src ≡ now (r .entry) .src) × (now (r .exit) .at ≡ t .next) ⌝ }
+    ensures { λ t. ⌜ TakePromise (now (r .entry)) n t (now (r .exit)) ⌝ }
 {
     let c = *r;
     let t = took_at(c.src, c.at, n);

@@ -8,7 +8,7 @@ use denote.Ref.{RefT}
 use Rattle.image.specs.Image.{HeaderPromise, PartPromise}
 use Rattle.image.specs.declared.Header.{Header}
 use Rattle.image.specs.declared.Part.{Part}
-use Rattle.bit_reader.specs.Took.{tookAt}
+use Rattle.bit_reader.specs.Took.{HoldPromise, TookAtPromise, TakePromise}
 use Rattle.bit_reader.specs.declared.Took.{Took}
 use Rattle.bit_reader.specs.declared.BitReader.{BitReader}
 use Rattle.stereo.specs.State.{FreshPromise, SoundPromise}
@@ -59,15 +59,22 @@ one-header image r r′ p q = p ∙ sym q
 pub one-part : (image : List ℕ) (k : ℕ) (r r′ : Part) → PartPromise image k r → PartPromise image k r′ → r ≡ r′
 one-part image k r r′ p q = p .0 ∙ sym (q .0)
 
--- of a field of the bit reader: what was taken, and where the reader then stands
-pub one-field : (bytes : List ℕ) (at n : ℕ) (t t′ : Took) (next next′ : ℕ) → (t ≡ tookAt bytes at n) × (next ≡ t .next)
-    → (t′ ≡ tookAt bytes at n) × (next′ ≡ t′ .next)
-    → (t ≡ t′) × (next ≡ next′)
-one-field bytes at n t t′ next next′ p q = let e = p .0 ∙ sym (q .0) in (e, p .1 ∙ ap (λ (t : Took). t .next) e ∙ sym (q .1))
+-- of a field of the bit reader: what was taken
+pub one-field : (bytes : List ℕ) (at n : ℕ) (t t′ : Took) → TookAtPromise bytes at n t → TookAtPromise bytes at n t′ → t ≡ t′
+one-field bytes at n t t′ p q = p ∙ sym q
 
 -- of the bit reader itself: the slice, which is the one that was passed, and the place
-pub one-bit-reader : (src : RefT (List ℕ)) (r r′ : BitReader) → (r .src ≡ src) × (r .at ≡ 0) → (r′ .src ≡ src) × (r′ .at ≡ 0) → r ≡ r′
+pub one-bit-reader : (src : RefT (List ℕ)) (r r′ : BitReader) → HoldPromise src r → HoldPromise src r′ → r ≡ r′
 one-bit-reader src r r′ p q =
     let e = p .0 ∙ sym (q .0) in
     let f = p .1 ∙ sym (q .1) in
     λ i. record { src = e i; at = f i }
+
+-- of the next field: what was taken, and the reader afterwards
+pub one-taking : (before : BitReader) (n : ℕ) (t t′ : Took) (after after′ : BitReader) → TakePromise before n t after
+    → TakePromise before n t′ after′ → (t ≡ t′) × (after ≡ after′)
+one-taking before n t t′ after after′ p q =
+    let e = p .0 ∙ sym (q .0) in
+    let f = p .1 ∙ sym (q .1) in
+    let g = p .2 ∙ ap (λ (t : Took). t .next) e ∙ sym (q .2) in
+    (e, λ i. record { src = f i; at = g i })
