@@ -25,7 +25,7 @@ use Rattle.stereo.specs.declared.Contents.{Contents}
 use Rattle.stereo.proofs.PayloadLaws.{payload-lawful}
 use Rattle.stereo.proofs.PayloadNear.{payload-near}
 use Rattle.stereo_laws.proofs.SoundLaws.{carried-sound}
-use Rattle.stereo_writer.proofs.PayloadNumbers.{whole-not-0}
+use Rattle.stereo_laws.proofs.PayloadNumbers.{whole-not-0}
 use Rattle.stereo_reader.specs.Reading.{from, refusal, taken, readingOf, readBytes, readFrom, missing}
 use Rattle.stereo_reader.specs.declared.Reading.{Reading}
 use Rattle.stereo.proofs.StateLaws.{fresh-sound, lost-sound}

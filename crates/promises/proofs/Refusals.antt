@@ -31,7 +31,7 @@ use Rattle.stereo_writer.specs.declared.Written.{Written}
 use Rattle.stereo_writer.specs.Spelling.{spelling}
 use Rattle.bits.specs.Pieces.{total}
 use Rattle.bits.specs.Packed.{bytesFor}
-use Rattle.stereo_writer.proofs.PayloadNumbers.{payloadRefusals, whole-own}
+use Rattle.stereo_laws.proofs.PayloadNumbers.{payloadRefusals, whole-own}
 use Rattle.image.specs.declared.Header.{Header}
 use Rattle.image.specs.declared.Part.{Part}
 use Rattle.image.specs.Image.{countOf, indexOf, soundImage, headerOf, partOf}

@@ -19,7 +19,7 @@ use Rattle.stereo.specs.declared.Contents.{Contents}
 use Rattle.stereo.proofs.StateLaws.{fresh-sound, lost-sound}
 use Rattle.stereo_laws.proofs.SoundLaws.{carried-sound}
 use Rattle.stereo_laws.proofs.RestartLaws.{same-read, same-carried}
-use Rattle.stereo_writer.proofs.PayloadNumbers.{whole-not-0}
+use Rattle.stereo_laws.proofs.PayloadNumbers.{whole-not-0}
 use Rattle.runs.specs.Machine.{payload as given, missing as reporting, reported, turn, untouched, losing, accepted, concluded}
 use Rattle.runs.specs.Damage.{Steady}
 use Rattle.promises.specs.Run.{stereo, turnOf, reportOf}

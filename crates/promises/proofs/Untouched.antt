@@ -29,7 +29,7 @@ use Rattle.stereo_reader.specs.Reading.{from, refusal, taken, readBytes, readFr
 use Rattle.stereo_reader.specs.Reading as reading
 use Rattle.stereo.specs.Carried.{carried}
 use Rattle.bits.proofs.Numbered.{one-of}
-use Rattle.stereo_writer.proofs.PayloadNumbers.{payloadRefusals, whole-own}
+use Rattle.stereo_laws.proofs.PayloadNumbers.{payloadRefusals, whole-own}
 use Rattle.c_stereo.specs.StateCalls.{freshNumber, freshAfter, missingNumber, missingAfter, lostBytes}
 use Rattle.c_stereo.specs.ReadStereo.{stereoCallRefusal, stereoReading, stereoNumber, stereoStateAfter, stereoAnswerAfter}
 use Rattle.stereo_writer.specs.declared.Written.{Written}

@@ -1,4 +1,3 @@
-pub mod PayloadNumbers
 pub mod SpellingLaws
 pub mod SameLaws
 pub mod WritingLaws

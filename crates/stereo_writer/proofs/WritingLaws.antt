@@ -31,7 +31,7 @@ use Rattle.stereo_writer.specs.Spelling.{spelling}
 use Rattle.stereo_writer.specs.Same.{sameContents}
 use Rattle.stereo_writer.specs.Writing.{canWrite, unwritten, writing}
 use Rattle.stereo.proofs.PayloadLaws.{payload-lawful}
-use Rattle.stereo_writer.proofs.PayloadNumbers.{whole-not-0}
+use Rattle.stereo_laws.proofs.PayloadNumbers.{whole-not-0}
 use Rattle.stereo_writer.proofs.SpellingLaws.{payload-spelt}
 use Rattle.stereo_writer.proofs.SameLaws.{contents-right}
 
