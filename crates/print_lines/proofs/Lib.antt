@@ -1,1 +1,3 @@
 pub mod Signs
+pub mod TextLaws
+pub mod Examples

@@ -1,0 +1,2 @@
+pub mod InnerText
+pub mod InnerListing

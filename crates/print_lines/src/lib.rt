@@ -1,6 +1,11 @@
 // The lines that the programs print: of each payload one in the listing, and in a dump what it holds and the stereo state after it.
 // A form is words with a mark `#` in place of each number. A line is written where all lines before it were (`ok`), and the answer is
 // whether it was.
+ghost use mathlib.Core.Path.{_≡_};
+ghost use Prim.Native.Nat.{_*_, _≤_};
+ghost use lib.ListN.{length};
+ghost use Rattle.print_lines.specs.InnerText.{formText, HoldsLine};
+ghost use Rattle.print_lines.specs.InnerListing.{refusedImage, payloadCount, refusedLine, acceptedLine, payloadLine};
 
 pub mod channels;
 pub mod contents;
@@ -16,37 +21,93 @@ fn say_form(ok: bool, form: &[u8], numbers: &[usize]) -> bool {
     text::say(ok, &mut line, at)
 }
 
+// A form, with the numbers in place of its marks, put at the front of a lent line.
+fn put_line(line: &mut [u8], form: &[u8], numbers: &[usize]) -> usize
+    requires { ⌜ 10 * length (now form) ≤ length (now line) ⌝ }
+    ensures { λ r. ⌜ HoldsLine (now (line .entry)) (formText (now (form .entry)) (now (numbers .entry))) r (now (line .exit)) ⌝ }
+{
+    text::put_form(line, 0, form, numbers)
+}
+
 // The line of a bad image.
-pub fn say_refused_image(number: u8) -> bool {
-    say_form(true, b"image refused #", &[number as usize])
+fn put_refused_image(line: &mut [u8], number: u8) -> usize
+    requires { ⌜ 512 ≤ length (now line) ⌝ }
+    ensures { λ r. ⌜ HoldsLine (now (line .entry)) (refusedImage number) r (now (line .exit)) ⌝ }
+{
+    put_line(line, b"image refused #", &[number as usize])
 }
 
 // The first line of a good one.
-pub fn say_count(count: usize) -> bool {
-    say_form(true, b"payloads #", &[count])
+fn put_count(line: &mut [u8], count: usize) -> usize
+    requires { ⌜ 512 ≤ length (now line) ⌝ }
+    ensures { λ r. ⌜ HoldsLine (now (line .entry)) (payloadCount count) r (now (line .exit)) ⌝ }
+{
+    put_line(line, b"payloads #", &[count])
 }
 
 // The line of a payload that was refused.
-fn say_refused(k: usize, number: usize) -> bool {
+fn put_refused(line: &mut [u8], k: usize, number: usize) -> usize
+    requires { ⌜ 512 ≤ length (now line) ⌝ }
+    ensures { λ r. ⌜ HoldsLine (now (line .entry)) (refusedLine k number) r (now (line .exit)) ⌝ }
+{
     let numbers = [k, number];
     if k % 2 == 0 {
-        return say_form(true, b"# channel refused #", &numbers);
+        return put_line(line, b"# channel refused #", &numbers);
     }
-    say_form(true, b"# stereo refused #", &numbers)
+    put_line(line, b"# stereo refused #", &numbers)
 }
 
-// The line of a payload, from its four numbers: the refusal; or 0, then a channel stream's gain, non-zero lines and bits used, or a
-// stereo payload's envelopes, 0 and bits used.
-pub fn say_payload(k: usize, number: usize, first: usize, second: usize, bits: usize) -> bool {
-    if number != 0 {
-        return say_refused(k, number);
-    }
+// The line of a payload that was accepted: a channel stream's gain, non-zero lines and bits used, or a stereo payload's envelopes, 0
+// and bits used.
+fn put_accepted(line: &mut [u8], k: usize, first: usize, second: usize, bits: usize) -> usize
+    requires { ⌜ 512 ≤ length (now line) ⌝ }
+    ensures { λ r. ⌜ HoldsLine (now (line .entry)) (acceptedLine k first second bits) r (now (line .exit)) ⌝ }
+{
     if k % 2 == 0 {
-        return say_form(
-            true,
+        return put_line(
+            line,
             b"# channel gain # lines # bits #",
             &[k, first, second, bits],
         );
     }
-    say_form(true, b"# stereo envelopes # bits #", &[k, first, bits])
+    put_line(line, b"# stereo envelopes # bits #", &[k, first, bits])
+}
+
+// The line of a payload, from its four numbers: the refusal, or 0 and what it holds.
+fn put_payload(
+    line: &mut [u8],
+    k: usize,
+    number: usize,
+    first: usize,
+    second: usize,
+    bits: usize,
+) -> usize
+    requires { ⌜ 512 ≤ length (now line) ⌝ }
+    ensures { λ r. ⌜ HoldsLine (now (line .entry)) (payloadLine k number first second bits) r (now (line .exit)) ⌝ }
+{
+    if number != 0 {
+        return put_refused(line, k, number);
+    }
+    put_accepted(line, k, first, second, bits)
+}
+
+// The line of a bad image is written.
+pub fn say_refused_image(number: u8) -> bool {
+    let mut line = [0u8; 512];
+    let at = put_refused_image(&mut line, number);
+    text::say(true, &mut line, at)
+}
+
+// The first line of a good one is written.
+pub fn say_count(count: usize) -> bool {
+    let mut line = [0u8; 512];
+    let at = put_count(&mut line, count);
+    text::say(true, &mut line, at)
+}
+
+// The line of a payload, from its four numbers, is written.
+pub fn say_payload(k: usize, number: usize, first: usize, second: usize, bits: usize) -> bool {
+    let mut line = [0u8; 512];
+    let at = put_payload(&mut line, k, number, first, second, bits);
+    text::say(true, &mut line, at)
 }

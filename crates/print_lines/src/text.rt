@@ -1,8 +1,13 @@
 // A line of text: words and numbers are put into a lent line, which is then written out at once.
-// Each `put` answers the place after what it put; what does not fit is dropped.
+// Each `put` answers the place after what it put; what does not fit is not put, and a line that is full is not written.
+ghost use mathlib.Core.Path.{_≡_};
+ghost use lib.ListN.{drop};
+ghost use Rattle.print_lines.specs.InnerText.{lineOf, withByte, withText, numberText, markedText, formText};
 
 // A byte.
-pub fn put_byte(line: &mut [u8], at: usize, byte: u8) -> usize {
+pub fn put_byte(line: &mut [u8], at: usize, byte: u8) -> usize
+    ensures { λ r. ⌜ lineOf (now (line .exit)) r ≡ withByte (lineOf (now (line .entry)) at) byte ⌝ }
+{
     if line.len() <= at {
         return at;
     }
@@ -11,7 +16,9 @@ pub fn put_byte(line: &mut [u8], at: usize, byte: u8) -> usize {
 }
 
 // Words.
-pub fn put(line: &mut [u8], at: usize, words: &[u8]) -> usize {
+pub fn put(line: &mut [u8], at: usize, words: &[u8]) -> usize
+    ensures { λ r. ⌜ lineOf (now (line .exit)) r ≡ withText (lineOf (now (line .entry)) at) (now (words .entry)) ⌝ }
+{
     let mut to = at;
     let mut i = 0;
     while i < words.len() {
@@ -22,7 +29,9 @@ pub fn put(line: &mut [u8], at: usize, words: &[u8]) -> usize {
 }
 
 // A number in decimal; one of more than 32 bits stands for the letter of its last 8.
-pub fn put_number(line: &mut [u8], at: usize, n: usize) -> usize {
+pub fn put_number(line: &mut [u8], at: usize, n: usize) -> usize
+    ensures { λ r. ⌜ lineOf (now (line .exit)) r ≡ withText (lineOf (now (line .entry)) at) (numberText n) ⌝ }
+{
     if 4294967296 <= n {
         return put_byte(line, at, (n % 256) as u8);
     }
@@ -32,7 +41,10 @@ pub fn put_number(line: &mut [u8], at: usize, n: usize) -> usize {
 }
 
 // A byte of a form: a mark is the number at this place, where there is one, and any other byte is itself.
-fn put_marked(line: &mut [u8], at: usize, byte: u8, numbers: &[usize], place: usize) -> usize {
+fn put_marked(line: &mut [u8], at: usize, byte: u8, numbers: &[usize], place: usize) -> usize
+    ensures { λ r. ⌜ lineOf (now (line .exit)) r
+        ≡ withText (lineOf (now (line .entry)) at) (markedText byte (drop place (now (numbers .entry)))) ⌝ }
+{
     if byte != b'#' {
         return put_byte(line, at, byte);
     }
@@ -43,7 +55,10 @@ fn put_marked(line: &mut [u8], at: usize, byte: u8, numbers: &[usize], place: us
 }
 
 // A form, with the numbers in place of its marks.
-pub fn put_form(line: &mut [u8], at: usize, form: &[u8], numbers: &[usize]) -> usize {
+pub fn put_form(line: &mut [u8], at: usize, form: &[u8], numbers: &[usize]) -> usize
+    ensures { λ r. ⌜ lineOf (now (line .exit)) r
+        ≡ withText (lineOf (now (line .entry)) at) (formText (now (form .entry)) (now (numbers .entry))) ⌝ }
+{
     let mut to = at;
     let mut i = 0;
     let mut place = 0;

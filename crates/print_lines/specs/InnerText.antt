@@ -1,0 +1,58 @@
+-- For contracts of inner functions only: a line of text as it is built, bytes put one after another into a buffer. What does not fit is
+-- not put, and the line is full.
+use Prim.Native.Nat.{ℕ, zero, suc, _+_, _%_, _^_}
+use mathlib.Core.Path.{_≡_}
+use mathlib.Core.List.{List, [], _∷_, _++_}
+use mathlib.Core.Bool.{Bool}
+use lib.Dec.{eqb, leb, ltb}
+use lib.ListN.{length, set, drop}
+use Rattle.bits.specs.Reader.{pick}
+use Rattle.bits.specs.Bytes.{over}
+use Rattle.io.specs.Digits.{digits}
+
+-- a buffer, and the place after what was put into it
+pub record Line : Type 0 where
+  pub bytes : List ℕ
+  pub at : ℕ
+
+abbrev pub lineOf : List ℕ → ℕ → Line
+lineOf bytes at = record { bytes = bytes; at = at }
+
+-- a byte more, where there is room
+abbrev pub withByte : Line → ℕ → Line
+withByte l b = pick (ltb (l .at) (length (l .bytes))) (lineOf (set (l .bytes) (l .at) b) (l .at + 1)) l
+
+-- a text more
+unfoldable pub withText : Line → List ℕ → Line
+withText l [] = l
+withText l (b ∷ bs) = withText (withByte l b) bs
+
+-- how many of the first k powers of ten are not above a number
+abbrev pub tens : ℕ → ℕ → ℕ
+tens zero n = 0
+tens (suc k) n = tens k n + pick (leb (10 ^ suc k) n) 1 0
+
+-- a number in decimal, below 2^32; from there on the letter of its last 8 bits
+unfoldable pub numberText : ℕ → List ℕ
+numberText n = pick (leb 4294967296 n) (n % 256 ∷ []) (digits 10 (tens 9 n + 1) n)
+
+-- the byte 35, `#`, is a mark
+abbrev pub isMark : ℕ → Bool
+isMark b = eqb b 35
+
+-- what stands for a byte of a form: for a mark the next number, where there is one; any other byte for itself
+abbrev pub firstText : List ℕ → List ℕ
+firstText [] = []
+firstText (n ∷ ns) = numberText n
+
+abbrev pub markedText : ℕ → List ℕ → List ℕ
+markedText b ns = pick (isMark b) (firstText ns) (b ∷ [])
+
+-- a form, with the numbers in place of its marks
+unfoldable pub formText : List ℕ → List ℕ → List ℕ
+formText [] ns = []
+formText (b ∷ bs) ns = markedText b ns ++ formText bs (pick (isMark b) (drop 1 ns) ns)
+
+-- a line holds a text at its front, and what it held past it; and the place is after the text
+abbrev pub HoldsLine : List ℕ → List ℕ → ℕ → List ℕ → Type 0
+HoldsLine old text at new = (at ≡ length text) × (new ≡ over old 0 text)
