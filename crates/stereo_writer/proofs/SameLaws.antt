@@ -2,19 +2,15 @@
 -- Assumes nothing.
 use Prim.Native.Nat.{ℕ}
 use mathlib.Core.Path.{_≡_, refl, ap, ap₂}
-use mathlib.Core.List.{List, [], _∷_, map}
+use mathlib.Core.List.{List, [], _∷_}
 use mathlib.Core.Bool.{Bool, true, false, _&&_}
 use lib.Dec.{eqb}
 use lib.IntN.{ℤ, pos, negsuc}
 use borrow.Author.Tests.{eqb-true, eq-eqb}
 use Rattle.bits.proofs.Bools.{and-both, true-false, and-of}
-use Rattle.stereo_indices.specs.declared.Kind.{Kind}
-use Rattle.stereo_indices.specs.declared.Kind.the-variants.{Iid, Icc, Ipd, Opd}
+use Rattle.stereo_writer.specs.Same.{sameList, sameIndex, sameRow, phaseRows, samePhases, sameBody, samePart, sameExtension, sameHeader}
 use Rattle.stereo.specs.declared.Phases.{Phases}
-use Rattle.stereo.specs.declared.Extension.{Extension}
-use Rattle.stereo.specs.declared.Contents.{Contents}
-use Rattle.stereo_writer.specs.Same.{sameList, sameIndex, sameRow, samePart, sameExtension, sameHeader, sameFrame}
-use Rattle.stereo_writer.specs.Same.{phaseRow, rowsOf, sameKind, sameKinds, sameContents}
+use Rattle.stereo_writer.specs.Same.{sameFrame, sameContents}
 
 -- a test of sameness that is right
 pub record Right {A : Type 0} (same : A → A → Bool) : Type 0 where
@@ -67,71 +63,65 @@ row-right = record {
 }
 
 -- phases whose IPD rows and whose OPD rows are the same are equal
-phases-is : (xs ys : List Phases)
-    → sameList sameRow (map (phaseRow false) xs) (map (phaseRow false) ys) ≡ true
-    → sameList sameRow (map (phaseRow true) xs) (map (phaseRow true) ys) ≡ true → xs ≡ ys
-phases-is [] [] e f = refl
-phases-is [] (y ∷ ys) e f = absurd (true-false false e refl)
-phases-is (x ∷ xs) [] e f = absurd (true-false false e refl)
-phases-is (x ∷ xs) (y ∷ ys) e f =
-    let v = and-both (sameRow (x .ipd) (y .ipd)) (sameList sameRow (map (phaseRow false) xs) (map (phaseRow false) ys)) e in
-    let w = and-both (sameRow (x .opd) (y .opd)) (sameList sameRow (map (phaseRow true) xs) (map (phaseRow true) ys)) f in
+phases-are : (xs ys : List Phases) → sameList sameRow (phaseRows false xs) (phaseRows false ys) ≡ true
+    → sameList sameRow (phaseRows true xs) (phaseRows true ys) ≡ true → xs ≡ ys
+phases-are [] [] e f = refl
+phases-are [] (y ∷ ys) e f = absurd (true-false false e refl)
+phases-are (x ∷ xs) [] e f = absurd (true-false false e refl)
+phases-are (x ∷ xs) (y ∷ ys) e f =
+    let v = and-both (sameRow (x .ipd) (y .ipd)) (sameList sameRow (phaseRows false xs) (phaseRows false ys)) e in
+    let w = and-both (sameRow (x .opd) (y .opd)) (sameList sameRow (phaseRows true xs) (phaseRows true ys)) f in
     let p = row-right .is (x .ipd) (y .ipd) (v .0) in
     let q = row-right .is (x .opd) (y .opd) (w .0) in
-    ap₂ (λ (a : Phases) (l : List Phases). a ∷ l) (λ i. record { ipd = p i; opd = q i }) (phases-is xs ys (v .1) (w .1))
+    ap₂ (λ (a : Phases) (l : List Phases). a ∷ l) (λ i. record { ipd = p i; opd = q i }) (phases-are xs ys (v .1) (w .1))
 
--- the extension but for its rows
-record Numbers (a b : Extension) : Type 0 where
-  there : a .there ≡ b .there
-  size : a .size ≡ b .size
-  esc : a .esc ≡ b .esc
-  count : a .part .count ≡ b .part .count
-  value : a .part .value ≡ b .part .value
-  phase : a .part .body .phase ≡ b .part .body .phase
+phases-right : Right samePhases
+unfolding samePhases
+phases-right = record {
+  is = λ xs ys e.
+      let x = and-both (sameList sameRow (phaseRows false xs) (phaseRows false ys)) (sameList sameRow (phaseRows true xs) (phaseRows true ys)) e in
+      phases-are xs ys (x .0) (x .1);
+  self = λ xs. rw (list-right row-right .self (phaseRows false xs)) (list-right row-right .self (phaseRows true xs));
+}
 
-numbers-is : (a b : Extension) → sameExtension a b ≡ true → Numbers a b
-unfolding sameExtension samePart
-numbers-is a b e =
-    let t₁ = eqb (a .there) (b .there) in
-    let t₂ = eqb (a .size) (b .size) in
-    let t₃ = eqb (a .esc) (b .esc) in
-    let t₄ = eqb (a .part .count) (b .part .count) in
-    let t₅ = eqb (a .part .value) (b .part .value) in
-    let x = and-both (t₁ && t₂ && t₃) (samePart (a .part) (b .part)) e in
-    let y = and-both (t₁ && t₂) t₃ (x .0) in
-    let z = and-both t₁ t₂ (y .0) in
-    let v = and-both (t₄ && t₅) (eqb (a .part .body .phase) (b .part .body .phase)) (x .1) in
-    let w = and-both t₄ t₅ (v .0) in
-    record {
-      there = eqb-true (a .there) (b .there) (z .0);
-      size = eqb-true (a .size) (b .size) (z .1);
-      esc = eqb-true (a .esc) (b .esc) (y .1);
-      count = eqb-true (a .part .count) (b .part .count) (w .0);
-      value = eqb-true (a .part .value) (b .part .value) (w .1);
-      phase = eqb-true (a .part .body .phase) (b .part .body .phase) (v .1);
-    }
+body-right : Right sameBody
+unfolding sameBody
+body-right = record {
+  is = λ a b e.
+      let x = and-both (eqb (a .phase) (b .phase)) (samePhases (a .phases) (b .phases)) e in
+      let p = eqb-true (a .phase) (b .phase) (x .0) in
+      let q = phases-right .is (a .phases) (b .phases) (x .1) in
+      λ i. record { phase = p i; phases = q i };
+  self = λ a. rw (same-number (a .phase)) (phases-right .self (a .phases));
+}
 
-numbers-self : (a : Extension) → sameExtension a a ≡ true
-unfolding sameExtension samePart
-numbers-self a =
-    rw (
-      same-number (a .there),
-      same-number (a .size),
-      same-number (a .esc),
-      same-number (a .part .count),
-      same-number (a .part .value),
-    )
-    (same-number (a .part .body .phase))
+part-right : Right samePart
+unfolding samePart
+part-right = record {
+  is = λ a b e.
+      let x = and-both (eqb (a .count) (b .count) && eqb (a .value) (b .value)) (sameBody (a .body) (b .body)) e in
+      let y = and-both (eqb (a .count) (b .count)) (eqb (a .value) (b .value)) (x .0) in
+      let p = eqb-true (a .count) (b .count) (y .0) in
+      let q = eqb-true (a .value) (b .value) (y .1) in
+      let r = body-right .is (a .body) (b .body) (x .1) in
+      λ i. record { body = r i; count = p i; value = q i };
+  self = λ a. rw (same-number (a .count), same-number (a .value)) (body-right .self (a .body));
+}
 
-extension-is : (a b : Extension) → Numbers a b → a .part .body .phases ≡ b .part .body .phases → a ≡ b
-extension-is a b n e =
-    λ i.
-    record {
-      there = n .there i;
-      size = n .size i;
-      esc = n .esc i;
-      part = record { body = record { phase = n .phase i; phases = e i }; count = n .count i; value = n .value i };
-    }
+extension-right : Right sameExtension
+unfolding sameExtension
+extension-right = record {
+  is = λ a b e.
+      let x = and-both (eqb (a .there) (b .there) && eqb (a .size) (b .size) && eqb (a .esc) (b .esc)) (samePart (a .part) (b .part)) e in
+      let y = and-both (eqb (a .there) (b .there) && eqb (a .size) (b .size)) (eqb (a .esc) (b .esc)) (x .0) in
+      let z = and-both (eqb (a .there) (b .there)) (eqb (a .size) (b .size)) (y .0) in
+      let p = eqb-true (a .there) (b .there) (z .0) in
+      let q = eqb-true (a .size) (b .size) (z .1) in
+      let r = eqb-true (a .esc) (b .esc) (y .1) in
+      let s = part-right .is (a .part) (b .part) (x .1) in
+      λ i. record { there = p i; size = q i; esc = r i; part = s i };
+  self = λ a. rw (same-number (a .there), same-number (a .size), same-number (a .esc)) (part-right .self (a .part));
+}
 
 header-right : Right sameHeader
 unfolding sameHeader
@@ -172,50 +162,30 @@ frame-right = record {
   self = λ a. rw (same-number (a .class), same-number (a .envelopes)) (list-right number-right .self (a .borders));
 }
 
--- what the rows of four kinds tell
-record Rows (a b : Contents) : Type 0 where
-  iid : a .iid ≡ b .iid
-  icc : a .icc ≡ b .icc
-  phases : a .extension .part .body .phases ≡ b .extension .part .body .phases
-
-rows-is : (a b : Contents) → sameKinds a b ≡ true → Rows a b
-unfolding sameKinds sameKind
-rows-is a b e =
-    let t₁ = sameKind Iid a b in
-    let t₂ = sameKind Icc a b in
-    let t₃ = sameKind Ipd a b in
-    let x = and-both (t₁ && t₂ && t₃) (sameKind Opd a b) e in
-    let y = and-both (t₁ && t₂) t₃ (x .0) in
-    let z = and-both t₁ t₂ (y .0) in
-    record {
-      iid = list-right row-right .is (a .iid) (b .iid) (z .0);
-      icc = list-right row-right .is (a .icc) (b .icc) (z .1);
-      phases = phases-is (a .extension .part .body .phases) (b .extension .part .body .phases) (y .1) (x .1);
-    }
-
-kind-self : (kind : Kind) (a : Contents) → sameKind kind a a ≡ true
-unfolding sameKind
-kind-self kind a = list-right row-right .self (rowsOf kind a)
-
-rows-self : (a : Contents) → sameKinds a a ≡ true
-unfolding sameKinds
-rows-self a = rw (kind-self Iid a, kind-self Icc a, kind-self Ipd a) (kind-self Opd a)
-
 pub contents-right : Right sameContents
 unfolding sameContents
 contents-right = record {
   is = λ a b e.
       let t₁ = sameHeader (a .header) (b .header) in
       let t₂ = sameFrame (a .frame) (b .frame) in
-      let t₃ = sameExtension (a .extension) (b .extension) in
-      let x = and-both (t₁ && t₂ && t₃) (sameKinds a b) e in
-      let y = and-both (t₁ && t₂) t₃ (x .0) in
-      let z = and-both t₁ t₂ (y .0) in
-      let rows = rows-is a b (x .1) in
-      let p = header-right .is (a .header) (b .header) (z .0) in
-      let q = frame-right .is (a .frame) (b .frame) (z .1) in
-      let r = extension-is (a .extension) (b .extension) (numbers-is (a .extension) (b .extension) (y .1)) (rows .phases) in
-      λ i. record { header = p i; frame = q i; iid = rows .iid i; icc = rows .icc i; extension = r i };
+      let t₃ = sameList sameRow (a .iid) (b .iid) in
+      let t₄ = sameList sameRow (a .icc) (b .icc) in
+      let x₅ = and-both (t₁ && t₂ && t₃ && t₄) (sameExtension (a .extension) (b .extension)) e in
+      let x₄ = and-both (t₁ && t₂ && t₃) t₄ (x₅ .0) in
+      let x₃ = and-both (t₁ && t₂) t₃ (x₄ .0) in
+      let x₂ = and-both t₁ t₂ (x₃ .0) in
+      let p = header-right .is (a .header) (b .header) (x₂ .0) in
+      let q = frame-right .is (a .frame) (b .frame) (x₂ .1) in
+      let r = list-right row-right .is (a .iid) (b .iid) (x₃ .1) in
+      let s = list-right row-right .is (a .icc) (b .icc) (x₄ .1) in
+      let t = extension-right .is (a .extension) (b .extension) (x₅ .1) in
+      λ i. record { header = p i; frame = q i; iid = r i; icc = s i; extension = t i };
   self = λ a.
-      rw (header-right .self (a .header), frame-right .self (a .frame), numbers-self (a .extension)) (rows-self a);
+      rw (
+        header-right .self (a .header),
+        frame-right .self (a .frame),
+        list-right row-right .self (a .iid),
+        list-right row-right .self (a .icc),
+      )
+      (extension-right .self (a .extension));
 }

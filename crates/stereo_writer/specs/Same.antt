@@ -3,12 +3,11 @@ use mathlib.Core.List.{List, [], _∷_, map}
 use mathlib.Core.Bool.{Bool, true, false, _&&_}
 use lib.Dec.{eqb}
 use lib.IntN.{ℤ, pos, negsuc}
-use Rattle.stereo_indices.specs.declared.Kind.{Kind}
-use Rattle.stereo_indices.specs.declared.Kind.the-variants.{Iid, Icc, Ipd, Opd}
 use Rattle.stereo_indices.specs.declared.Row.{Row}
 use Rattle.stereo.specs.declared.Header.{Header}
 use Rattle.stereo.specs.declared.Frame.{Frame}
 use Rattle.stereo.specs.declared.Phases.{Phases}
+use Rattle.stereo.specs.declared.Body.{Body}
 use Rattle.stereo.specs.declared.Part.{Part}
 use Rattle.stereo.specs.declared.Extension.{Extension}
 use Rattle.stereo.specs.declared.Contents.{Contents}
@@ -29,6 +28,27 @@ sameIndex (negsuc a) (negsuc b) = eqb a b
 unfoldable pub sameRow : Row → Row → Bool
 sameRow a b = eqb (a .time) (b .time) && sameList sameIndex (a .indices) (b .indices)
 
+-- the IPD row of an envelope's phases, or the OPD row
+abbrev pub phaseRow : Bool → Phases → Row
+phaseRow false phases = phases .ipd
+phaseRow true phases = phases .opd
+
+-- the IPD rows of some envelopes, or the OPD rows
+abbrev pub phaseRows : Bool → List Phases → List Row
+phaseRows opd phases = map (phaseRow opd) phases
+
+unfoldable pub samePhases : List Phases → List Phases → Bool
+samePhases xs ys = sameList sameRow (phaseRows false xs) (phaseRows false ys) && sameList sameRow (phaseRows true xs) (phaseRows true ys)
+
+unfoldable pub sameBody : Body → Body → Bool
+sameBody a b = eqb (a .phase) (b .phase) && samePhases (a .phases) (b .phases)
+
+unfoldable pub samePart : Part → Part → Bool
+samePart a b = eqb (a .count) (b .count) && eqb (a .value) (b .value) && sameBody (a .body) (b .body)
+
+unfoldable pub sameExtension : Extension → Extension → Bool
+sameExtension a b = eqb (a .there) (b .there) && eqb (a .size) (b .size) && eqb (a .esc) (b .esc) && samePart (a .part) (b .part)
+
 unfoldable pub sameHeader : Header → Header → Bool
 sameHeader a b =
     eqb (a .there) (b .there) && eqb (a .iid) (b .iid) && eqb (a .iidmode) (b .iidmode) && eqb (a .icc) (b .icc) && eqb (a .iccmode)
@@ -38,32 +58,8 @@ sameHeader a b =
 unfoldable pub sameFrame : Frame → Frame → Bool
 sameFrame a b = eqb (a .class) (b .class) && eqb (a .envelopes) (b .envelopes) && sameList eqb (a .borders) (b .borders)
 
--- the extension but for its rows, which are compared with those of the other kinds
-unfoldable pub samePart : Part → Part → Bool
-samePart a b = eqb (a .count) (b .count) && eqb (a .value) (b .value) && eqb (a .body .phase) (b .body .phase)
-
-unfoldable pub sameExtension : Extension → Extension → Bool
-sameExtension a b = eqb (a .there) (b .there) && eqb (a .size) (b .size) && eqb (a .esc) (b .esc) && samePart (a .part) (b .part)
-
--- the IPD row of an envelope's phases, or the OPD row
-abbrev pub phaseRow : Bool → Phases → Row
-phaseRow false phases = phases .ipd
-phaseRow true phases = phases .opd
-
--- the rows of a kind, one for each of four envelopes
-abbrev pub rowsOf : Kind → Contents → List Row
-rowsOf Iid c = c .iid
-rowsOf Icc c = c .icc
-rowsOf Ipd c = map (phaseRow false) (c .extension .part .body .phases)
-rowsOf Opd c = map (phaseRow true) (c .extension .part .body .phases)
-
-unfoldable pub sameKind : Kind → Contents → Contents → Bool
-sameKind kind a b = sameList sameRow (rowsOf kind a) (rowsOf kind b)
-
-unfoldable pub sameKinds : Contents → Contents → Bool
-sameKinds a b = sameKind Iid a b && sameKind Icc a b && sameKind Ipd a b && sameKind Opd a b
-
 unfoldable pub sameContents : Contents → Contents → Bool
 sameContents a b =
-    sameHeader (a .header) (b .header) && sameFrame (a .frame) (b .frame) && sameExtension (a .extension) (b .extension)
-    && sameKinds a b
+    sameHeader (a .header) (b .header) && sameFrame (a .frame) (b .frame) && sameList sameRow (a .iid) (b .iid) && sameList sameRow
+    (a .icc) (b .icc)
+    && sameExtension (a .extension) (b .extension)

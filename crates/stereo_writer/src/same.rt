@@ -1,16 +1,16 @@
 // Contents compared, field by field.
 ghost use mathlib.Core.Path.{_≡_};
+ghost use mathlib.Core.Bool.{_&&_};
 ghost use lib.Dec.{eqb};
-ghost use mathlib.Core.List.{map};
-ghost use Rattle.stereo_writer.specs.Same.{sameList, sameIndex, sameRow, samePart, sameExtension, sameHeader, sameFrame};
-ghost use Rattle.stereo_writer.specs.Same.{phaseRow, rowsOf, sameKind, sameKinds, sameContents};
+ghost use Rattle.stereo_writer.specs.Same.{sameList, sameIndex, sameRow, phaseRow, phaseRows, samePhases, sameBody, samePart, sameExtension, sameHeader};
+ghost use Rattle.stereo_writer.specs.Same.{sameFrame, sameContents};
+use stereo::Body;
 use stereo::Contents;
 use stereo::Extension;
 use stereo::Frame;
 use stereo::Header;
 use stereo::Part;
 use stereo::Phases;
-use stereo_indices::Kind;
 use stereo_indices::Row;
 
 // Whether 34 indices are the same.
@@ -39,7 +39,66 @@ fn same_row(a: Row, b: Row) -> bool
     same_indices(xs, ys)
 }
 
-// Whether the announced part is the same but for its rows.
+// Whether the rows of four envelopes are the same.
+fn same_rows(xs: [Row; 4], ys: [Row; 4]) -> bool
+    ensures { λ r. ⌜ r ≡ sameList sameRow xs ys ⌝ }
+{
+    let mut i = 0;
+    while i < 4 {
+        let x = xs[i];
+        let y = ys[i];
+        if !same_row(x, y) {
+            return false;
+        }
+        i += 1;
+    }
+    true
+}
+
+// The IPD row of an envelope's phases, or the OPD row.
+fn phase_row(phases: Phases, opd: bool) -> Row
+    ensures { λ r. ⌜ r ≡ phaseRow opd phases ⌝ }
+{
+    if opd {
+        return phases.opd;
+    }
+    phases.ipd
+}
+
+// The IPD rows of four envelopes, or the OPD rows.
+fn phase_rows(phases: [Phases; 4], opd: bool) -> [Row; 4]
+    ensures { λ r. ⌜ r ≡ phaseRows opd phases ⌝ }
+{
+    let first = phase_row(phases[0], opd);
+    let second = phase_row(phases[1], opd);
+    let third = phase_row(phases[2], opd);
+    let fourth = phase_row(phases[3], opd);
+    [first, second, third, fourth]
+}
+
+// Whether the phases of four envelopes are the same.
+fn same_phases(xs: [Phases; 4], ys: [Phases; 4]) -> bool
+    ensures { λ r. ⌜ r ≡ samePhases xs ys ⌝ }
+{
+    if !same_rows(phase_rows(xs, false), phase_rows(ys, false)) {
+        return false;
+    }
+    same_rows(phase_rows(xs, true), phase_rows(ys, true))
+}
+
+// Whether v0 is the same.
+fn same_body(a: Body, b: Body) -> bool
+    ensures { λ r. ⌜ r ≡ sameBody a b ⌝ }
+{
+    if a.phase != b.phase {
+        return false;
+    }
+    let xs = a.phases;
+    let ys = b.phases;
+    same_phases(xs, ys)
+}
+
+// Whether the announced part is the same.
 fn same_part(a: Part, b: Part) -> bool
     ensures { λ r. ⌜ r ≡ samePart a b ⌝ }
 {
@@ -51,10 +110,10 @@ fn same_part(a: Part, b: Part) -> bool
     }
     let x = a.body;
     let y = b.body;
-    x.phase == y.phase
+    same_body(x, y)
 }
 
-// Whether the extension is the same but for its rows.
+// Whether the extension is the same.
 fn same_extension(a: Extension, b: Extension) -> bool
     ensures { λ r. ⌜ r ≡ sameExtension a b ⌝ }
 {
@@ -123,82 +182,18 @@ fn same_frame(a: Frame, b: Frame) -> bool
     same_borders(xs, ys)
 }
 
-// Whether the rows of four envelopes are the same.
-fn same_rows(xs: [Row; 4], ys: [Row; 4]) -> bool
-    ensures { λ r. ⌜ r ≡ sameList sameRow xs ys ⌝ }
-{
-    let mut i = 0;
-    while i < 4 {
-        let x = xs[i];
-        let y = ys[i];
-        if !same_row(x, y) {
-            return false;
-        }
-        i += 1;
-    }
-    true
-}
-
-// The IPD row of an envelope's phases, or the OPD row.
-fn phase_row(phases: Phases, opd: bool) -> Row
-    ensures { λ r. ⌜ r ≡ phaseRow opd phases ⌝ }
-{
-    if opd {
-        return phases.opd;
-    }
-    phases.ipd
-}
-
-// The IPD rows of four envelopes, or the OPD rows.
-fn phase_rows(phases: [Phases; 4], opd: bool) -> [Row; 4]
-    ensures { λ r. ⌜ r ≡ map (phaseRow opd) phases ⌝ }
-{
-    let first = phase_row(phases[0], opd);
-    let second = phase_row(phases[1], opd);
-    let third = phase_row(phases[2], opd);
-    let fourth = phase_row(phases[3], opd);
-    [first, second, third, fourth]
-}
-
-// The rows of a kind.
-fn rows_of(contents: Contents, kind: Kind) -> [Row; 4]
-    ensures { λ r. ⌜ r ≡ rowsOf kind contents ⌝ }
-{
-    let extension = contents.extension;
-    let part = extension.part;
-    let body = part.body;
-    let phases = body.phases;
-    match kind {
-        Kind::Iid => contents.iid,
-        Kind::Icc => contents.icc,
-        Kind::Ipd => phase_rows(phases, false),
-        Kind::Opd => phase_rows(phases, true),
-    }
-}
-
-// Whether the rows of a kind are the same.
-fn same_kind(kind: Kind, a: Contents, b: Contents) -> bool
-    ensures { λ r. ⌜ r ≡ sameKind kind a b ⌝ }
-{
-    let xs = rows_of(a, kind);
-    let ys = rows_of(b, kind);
-    same_rows(xs, ys)
-}
-
-// Whether the rows of all kinds are the same.
+// Whether the rows of both kinds are the same.
 fn same_kinds(a: Contents, b: Contents) -> bool
-    ensures { λ r. ⌜ r ≡ sameKinds a b ⌝ }
+    ensures { λ r. ⌜ r ≡ (sameList sameRow (a .iid) (b .iid) && sameList sameRow (a .icc) (b .icc)) ⌝ }
 {
-    if !same_kind(Kind::Iid, a, b) {
+    let xs = a.iid;
+    let ys = b.iid;
+    if !same_rows(xs, ys) {
         return false;
     }
-    if !same_kind(Kind::Icc, a, b) {
-        return false;
-    }
-    if !same_kind(Kind::Ipd, a, b) {
-        return false;
-    }
-    same_kind(Kind::Opd, a, b)
+    let zs = a.icc;
+    let ws = b.icc;
+    same_rows(zs, ws)
 }
 
 // Whether contents are the same.
@@ -215,10 +210,10 @@ pub fn same_contents(a: Contents, b: Contents) -> bool
     if !same_frame(z, w) {
         return false;
     }
-    let p = a.extension;
-    let q = b.extension;
-    if !same_extension(p, q) {
+    if !same_kinds(a, b) {
         return false;
     }
-    same_kinds(a, b)
+    let p = a.extension;
+    let q = b.extension;
+    same_extension(p, q)
 }

@@ -22,30 +22,30 @@ returns-2 c = let t = c .before .before .before .before in
 
 returns-3 : tie.Need-returns-3
 unfolding sameContents
-returns-3 c = let f = c .before .before .before .before in
+returns-3 c = let f = c .before .before in
     let h = f .before .before .before .before in
     rw (
       ← (h .before .same-header .ensures),
       not-false (h .before .same-header .result) (h .if1 .left),
       ← (f .before .same-frame .ensures),
       not-false (f .before .same-frame .result) (f .if2 .left),
-      ← (c .before .same-extension .ensures),
-      not-true (c .before .same-extension .result) (c .if3 .taken),
+      ← (c .before .same-kinds .ensures),
+      not-true (c .before .same-kinds .result) (c .if3 .taken),
     )
 
 returns-4 : tie.Need-returns-4
 unfolding sameContents
-returns-4 c = let k = c .before in
-    let f = k .before .before .before .before in
+returns-4 c = let k = c .before .before .before in
+    let f = k .before .before in
     let h = f .before .before .before .before in
-    c .same-kinds .ensures
+    c .same-extension .ensures
     ∙ rw (
       ← (h .before .same-header .ensures),
       not-false (h .before .same-header .result) (h .if1 .left),
       ← (f .before .same-frame .ensures),
       not-false (f .before .same-frame .result) (f .if2 .left),
-      ← (k .before .same-extension .ensures),
-      not-false (k .before .same-extension .result) (k .if3 .left),
+      ← (k .before .same-kinds .ensures),
+      not-false (k .before .same-kinds .result) (k .if3 .left),
     )
 
 pub same-contents-spec : {M : Type 1} → statement M
