@@ -8,9 +8,9 @@ use lib.Dec.{eqb}
 use lib.IntN.{ℤ, pos, negsuc}
 use borrow.Author.Tests.{eqb-true, eq-eqb}
 use Rattle.bits.proofs.Bools.{and-both, true-false, and-of}
-use Rattle.stereo_writer.specs.Same.{sameList, sameIndex, sameRow, phaseRows, samePhases, sameBody, samePart, sameExtension, sameHeader}
+use Rattle.stereo_writer.specs.Same.{sameList, sameIndex, sameRow, phaseRows, samePhases, sameBody, samePart, sameExtension}
 use Rattle.stereo.specs.declared.Phases.{Phases}
-use Rattle.stereo_writer.specs.Same.{sameFrame, sameContents}
+use Rattle.stereo_writer.specs.Same.{sameHeader, sameFrame, sameContents}
 
 -- a test of sameness that is right
 pub record Right {A : Type 0} (same : A → A → Bool) : Type 0 where
@@ -79,7 +79,9 @@ phases-right : Right samePhases
 unfolding samePhases
 phases-right = record {
   is = λ xs ys e.
-      let x = and-both (sameList sameRow (phaseRows false xs) (phaseRows false ys)) (sameList sameRow (phaseRows true xs) (phaseRows true ys)) e in
+      let ipd = sameList sameRow (phaseRows false xs) (phaseRows false ys) in
+      let opd = sameList sameRow (phaseRows true xs) (phaseRows true ys) in
+      let x = and-both ipd opd e in
       phases-are xs ys (x .0) (x .1);
   self = λ xs. rw (list-right row-right .self (phaseRows false xs)) (list-right row-right .self (phaseRows true xs));
 }

@@ -2,8 +2,8 @@
 ghost use mathlib.Core.Path.{_≡_};
 ghost use mathlib.Core.Bool.{_&&_};
 ghost use lib.Dec.{eqb};
-ghost use Rattle.stereo_writer.specs.Same.{sameList, sameIndex, sameRow, phaseRow, phaseRows, samePhases, sameBody, samePart, sameExtension, sameHeader};
-ghost use Rattle.stereo_writer.specs.Same.{sameFrame, sameContents};
+ghost use Rattle.stereo_writer.specs.Same.{sameList, sameIndex, sameRow, phaseRow, phaseRows, samePhases, sameBody, samePart};
+ghost use Rattle.stereo_writer.specs.Same.{sameExtension, sameHeader, sameFrame, sameContents};
 use stereo::Body;
 use stereo::Contents;
 use stereo::Extension;

@@ -2,7 +2,7 @@
 use Rattle.stereo_writer.specs.Same.{sameList, sameRow, phaseRows, samePhases}
 use borrow.Author.Tests.{not-true, not-false}
 use mathlib.Core.Path.{_≡_, sym, _∙_}
-use mathlib.Core.Bool.{true, false}
+use mathlib.Core.Bool.{false}
 use borrow.Author.Needs.{needs}
 use Rattle.stereo_writer.proofs.same.same_phases.Statement.{statement}
 use Rattle.stereo_writer.proofs.same.same_phases.Tie as tie
