@@ -99,7 +99,7 @@ flag-back false = refl
 abbrev pub asRow : Record → Row
 asRow r = record { time = r .mode; indices = r .indices }
 
-abbrev asRecord : Row → Record
+abbrev pub asRecord : Row → Record
 asRecord r = record { mode = r .time; indices = r .indices }
 
 -- a state that fits 146 bytes

@@ -17,8 +17,8 @@ use stereo::Part;
 use stereo::Phases;
 use stereo_indices::Row;
 
-// The row at a place.
-fn row_at(s: &[u8], at: usize) -> Row
+// The row at a place: a number and 34 indices.
+pub fn row_at(s: &[u8], at: usize) -> Row
     requires { ⌜ at + 35 ≤ length (now s) ⌝ }
     ensures { λ r. ⌜ r ≡ rowAt (now (s .entry)) at ⌝ }
 {

@@ -5,20 +5,22 @@ ghost use Prim.Native.Nat.{_+_, _≤_};
 ghost use lib.ListN.{length};
 ghost use Rattle.bits.specs.Bytes.{over};
 ghost use Rattle.c_layout.specs.StateBytes.{stateHead, stateBytes, recordAt, stateAt, isFlag, soundBytes};
+use crate::answers;
 use crate::indices;
 use bits::bytes;
 use stereo::Setup;
 use stereo::State;
 use stereo_indices::Record;
 
-// The record at a place.
+// The record at a place: a row whose number is its mode.
 fn record_at(s: &[u8], at: usize) -> Record
     requires { ⌜ at + 35 ≤ length (now s) ⌝ }
     ensures { λ r. ⌜ r ≡ recordAt (now (s .entry)) at ⌝ }
 {
-    let indices = indices::indices_at(s, at + 1);
+    let row = answers::row_at(s, at);
+    let indices = row.indices;
     Record {
-        mode: bytes::wide(s[at]),
+        mode: row.time,
         indices,
     }
 }
