@@ -8,11 +8,11 @@ use Rattle.stereo.specs.declared.State.{State}
 use Rattle.image_outline.specs.Answers.{stateFrom, stateBefore}
 
 -- the state that the k-th payload is printed from
-abbrev pub stateAt : Bool → List ℕ → ℕ → State
-stateAt true s k = stateBefore s k
-stateAt false s k = fresh
+abbrev pub printedFrom : Bool → List ℕ → ℕ → State
+printedFrom true s k = stateBefore s k
+printedFrom false s k = fresh
 
 -- the state after the k-th payload, which fills a part, from the state before it
-abbrev pub stateAfter : Bool → State → ℕ → List ℕ → State
-stateAfter true st k part = stateFrom st k part
-stateAfter false st k part = st
+abbrev pub printedAfter : Bool → State → ℕ → List ℕ → State
+printedAfter true st k part = stateFrom st k part
+printedAfter false st k part = st

@@ -5,7 +5,7 @@ ghost use lib.ListN.{length};
 ghost use Rattle.image.specs.Image.{headerOf, partOf, bytesOf};
 ghost use Rattle.image_outline.specs.Answers.{stateFrom};
 ghost use Rattle.io.specs.Counts.{Counts};
-ghost use Rattle.print.specs.InnerStates.{stateAt, stateAfter};
+ghost use Rattle.print.specs.InnerStates.{printedFrom, printedAfter};
 use stereo::State;
 use stereo::states;
 
@@ -53,8 +53,8 @@ fn print_payload(
     state: State,
 ) -> Printed
     requires { ⌜ (length (now image) ≤ 65535) × (k < 1024) × (4096 ≤ length (now rows))
-        × (partOf (now image) k .number ≡ 0) × (state ≡ stateAt full (now image) k) ⌝ }
-    ensures { λ r. ⌜ r .state ≡ stateAfter full state k (bytesOf (now (image .entry)) k) ⌝ }
+        × (partOf (now image) k .number ≡ 0) × (state ≡ printedFrom full (now image) k) ⌝ }
+    ensures { λ r. ⌜ r .state ≡ printedAfter full state k (bytesOf (now (image .entry)) k) ⌝ }
 {
     let written = print_line(k, rows);
     if full {

@@ -8,7 +8,8 @@ use lib.Dec.{eqb}
 use lib.IntN.{ℤ, pos, negsuc}
 use borrow.Author.Tests.{eqb-true, eq-eqb}
 use Rattle.bits.proofs.Bools.{and-both, true-false, and-of}
-use Rattle.stereo_writer.specs.Same.{sameList, sameIndex, sameRow, phaseRows, samePhases, sameBody, samePart, sameExtension}
+use Rattle.stereo_writer.specs.Same.{sameList, sameIndex, sameRow, samePhases, sameBody, samePart, sameExtension}
+use Rattle.stereo.specs.Extension.{ipds, opds}
 use Rattle.stereo.specs.declared.Phases.{Phases}
 use Rattle.stereo_writer.specs.Same.{sameHeader, sameFrame, sameContents}
 
@@ -63,14 +64,14 @@ row-right = record {
 }
 
 -- phases whose IPD rows and whose OPD rows are the same are equal
-phases-are : (xs ys : List Phases) → sameList sameRow (phaseRows false xs) (phaseRows false ys) ≡ true
-    → sameList sameRow (phaseRows true xs) (phaseRows true ys) ≡ true → xs ≡ ys
+phases-are : (xs ys : List Phases) → sameList sameRow (ipds xs) (ipds ys) ≡ true
+    → sameList sameRow (opds xs) (opds ys) ≡ true → xs ≡ ys
 phases-are [] [] e f = refl
 phases-are [] (y ∷ ys) e f = absurd (true-false false e refl)
 phases-are (x ∷ xs) [] e f = absurd (true-false false e refl)
 phases-are (x ∷ xs) (y ∷ ys) e f =
-    let v = and-both (sameRow (x .ipd) (y .ipd)) (sameList sameRow (phaseRows false xs) (phaseRows false ys)) e in
-    let w = and-both (sameRow (x .opd) (y .opd)) (sameList sameRow (phaseRows true xs) (phaseRows true ys)) f in
+    let v = and-both (sameRow (x .ipd) (y .ipd)) (sameList sameRow (ipds xs) (ipds ys)) e in
+    let w = and-both (sameRow (x .opd) (y .opd)) (sameList sameRow (opds xs) (opds ys)) f in
     let p = row-right .is (x .ipd) (y .ipd) (v .0) in
     let q = row-right .is (x .opd) (y .opd) (w .0) in
     ap₂ (λ (a : Phases) (l : List Phases). a ∷ l) (λ i. record { ipd = p i; opd = q i }) (phases-are xs ys (v .1) (w .1))
@@ -79,11 +80,11 @@ phases-right : Right samePhases
 unfolding samePhases
 phases-right = record {
   is = λ xs ys e.
-      let ipd = sameList sameRow (phaseRows false xs) (phaseRows false ys) in
-      let opd = sameList sameRow (phaseRows true xs) (phaseRows true ys) in
+      let ipd = sameList sameRow (ipds xs) (ipds ys) in
+      let opd = sameList sameRow (opds xs) (opds ys) in
       let x = and-both ipd opd e in
       phases-are xs ys (x .0) (x .1);
-  self = λ xs. rw (list-right row-right .self (phaseRows false xs)) (list-right row-right .self (phaseRows true xs));
+  self = λ xs. rw (list-right row-right .self (ipds xs)) (list-right row-right .self (opds xs));
 }
 
 body-right : Right sameBody

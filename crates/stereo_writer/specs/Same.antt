@@ -1,9 +1,10 @@
 -- Contents compared, field by field.
-use mathlib.Core.List.{List, [], _∷_, map}
+use mathlib.Core.List.{List, [], _∷_}
 use mathlib.Core.Bool.{Bool, true, false, _&&_}
 use lib.Dec.{eqb}
 use lib.IntN.{ℤ, pos, negsuc}
 use Rattle.stereo_indices.specs.declared.Row.{Row}
+use Rattle.stereo.specs.Extension.{ipds, opds}
 use Rattle.stereo.specs.declared.Header.{Header}
 use Rattle.stereo.specs.declared.Frame.{Frame}
 use Rattle.stereo.specs.declared.Phases.{Phases}
@@ -28,17 +29,8 @@ sameIndex (negsuc a) (negsuc b) = eqb a b
 unfoldable pub sameRow : Row → Row → Bool
 sameRow a b = eqb (a .time) (b .time) && sameList sameIndex (a .indices) (b .indices)
 
--- the IPD row of an envelope's phases, or the OPD row
-abbrev pub phaseRow : Bool → Phases → Row
-phaseRow false phases = phases .ipd
-phaseRow true phases = phases .opd
-
--- the IPD rows of some envelopes, or the OPD rows
-abbrev pub phaseRows : Bool → List Phases → List Row
-phaseRows opd phases = map (phaseRow opd) phases
-
 unfoldable pub samePhases : List Phases → List Phases → Bool
-samePhases xs ys = sameList sameRow (phaseRows false xs) (phaseRows false ys) && sameList sameRow (phaseRows true xs) (phaseRows true ys)
+samePhases xs ys = sameList sameRow (ipds xs) (ipds ys) && sameList sameRow (opds xs) (opds ys)
 
 unfoldable pub sameBody : Body → Body → Bool
 sameBody a b = eqb (a .phase) (b .phase) && samePhases (a .phases) (b .phases)

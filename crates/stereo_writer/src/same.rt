@@ -2,7 +2,9 @@
 ghost use mathlib.Core.Path.{_≡_};
 ghost use mathlib.Core.Bool.{_&&_};
 ghost use lib.Dec.{eqb};
-ghost use Rattle.stereo_writer.specs.Same.{sameList, sameIndex, sameRow, phaseRow, phaseRows, samePhases, sameBody, samePart};
+ghost use Rattle.bits.specs.Reader.{pick};
+ghost use Rattle.stereo.specs.Extension.{ipds, opds};
+ghost use Rattle.stereo_writer.specs.Same.{sameList, sameIndex, sameRow, samePhases, sameBody, samePart};
 ghost use Rattle.stereo_writer.specs.Same.{sameExtension, sameHeader, sameFrame, sameContents};
 use stereo::Body;
 use stereo::Contents;
@@ -57,7 +59,7 @@ fn same_rows(xs: [Row; 4], ys: [Row; 4]) -> bool
 
 // The IPD row of an envelope's phases, or the OPD row.
 fn phase_row(phases: Phases, opd: bool) -> Row
-    ensures { λ r. ⌜ r ≡ phaseRow opd phases ⌝ }
+    ensures { λ r. ⌜ r ≡ pick opd (phases .opd) (phases .ipd) ⌝ }
 {
     if opd {
         return phases.opd;
@@ -67,7 +69,7 @@ fn phase_row(phases: Phases, opd: bool) -> Row
 
 // The IPD rows of four envelopes, or the OPD rows.
 fn phase_rows(phases: [Phases; 4], opd: bool) -> [Row; 4]
-    ensures { λ r. ⌜ r ≡ phaseRows opd phases ⌝ }
+    ensures { λ r. ⌜ r ≡ pick opd (opds phases) (ipds phases) ⌝ }
 {
     let first = phase_row(phases[0], opd);
     let second = phase_row(phases[1], opd);

@@ -5,14 +5,14 @@ use mathlib.Core.Path.{_≡_, _∙_, ap}
 use native.Mathlib.Omega.{arith}
 use Rattle.image.specs.declared.Part.{Part}
 use Rattle.image_outline.proofs.OutlineLaws.{part-there}
-use Rattle.print.specs.InnerStates.{stateAt}
+use Rattle.print.specs.InnerStates.{printedFrom}
 use Rattle.print.proofs.StateLaws.{state-first, state-next}
 use borrow.Author.Needs.{needs}
 use Rattle.print.proofs.print_payloads.Statement.{statement}
 use Rattle.print.proofs.print_payloads.Tie as tie
 
 abbrev Inv-loop : tie.InvT-loop
-Inv-loop image count index rows full state₀ k₀ state k = (k ≤ count) × (state ≡ stateAt full image k)
+Inv-loop image count index rows full state₀ k₀ state k = (k ≤ count) × (state ≡ printedFrom full image k)
 
 abbrev μ-loop : tie.MeasureT-loop
 μ-loop image count index rows full state₀ k₀ state k = count - k

@@ -1,11 +1,21 @@
 -- Each of the four results is the row of the phases there.
-use mathlib.Core.Path.{ap}
-use mathlib.Core.List.{map}
+use mathlib.Core.Path.{_≡_, refl, ap, _∙_}
+use mathlib.Core.List.{List, [], _∷_}
+use mathlib.Core.Bool.{Bool, true, false}
 use borrow.Author.Needs.{needs}
+use Rattle.bits.specs.Reader.{pick}
+use Rattle.stereo.specs.Extension.{ipds, opds}
+use Rattle.stereo.specs.declared.Phases.{Phases}
 use Rattle.stereo.proofs.TurnLaws.{of-four}
-use Rattle.stereo_writer.specs.Same.{phaseRow}
 use Rattle.stereo_writer.proofs.same.phase_rows.Statement.{statement}
 use Rattle.stereo_writer.proofs.same.phase_rows.Tie as tie
+
+-- the rows of four, one by one
+one-by-one : (opd : Bool) (a b c d : Phases)
+    → pick opd (a .opd) (a .ipd) ∷ pick opd (b .opd) (b .ipd) ∷ pick opd (c .opd) (c .ipd) ∷ pick opd (d .opd) (d .ipd) ∷ []
+    ≡ pick opd (opds (a ∷ b ∷ c ∷ d ∷ [])) (ipds (a ∷ b ∷ c ∷ d ∷ []))
+one-by-one true a b c d = refl
+one-by-one false a b c d = refl
 
 returns : tie.Need-returns
 returns c =
@@ -14,7 +24,7 @@ returns c =
     let first = second .before .before in
     let a = first .before .before .args in
     rw (first .phase-row .ensures, second .phase-row2 .ensures, third .phase-row3 .ensures, c .phase-row4 .ensures)
-    (ap (map (phaseRow (a .opd))) (of-four _ (a .t1) (search needs)))
+    (one-by-one (a .opd) _ _ _ _ ∙ ap (λ (ps : List Phases). pick (a .opd) (opds ps) (ipds ps)) (of-four _ (a .t1) (search needs)))
 
 pub phase-rows-spec : {M : Type 1} → statement M
 phase-rows-spec =
