@@ -23,3 +23,5 @@ pub mod Signed
 pub mod Numbered
 pub mod Gives
 pub mod SamplingLaws
+pub mod Moves
+pub mod MostBits

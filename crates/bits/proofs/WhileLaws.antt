@@ -38,7 +38,7 @@ module _ {S : Type 0} (on : S → Bool) (f : S → Reader S) where
   turns-lawful g (suc n) x = pick-lawful (on x) (bind-lawful (f x) (turns n on f) (g x) (turns-lawful g n)) (give-lawful x)
 
   -- any two numbers of turns that are above the number of bits do the same
-  turns-enough : ((x : S) → Takes (f x)) → (m n : ℕ) (x : S) (s : List ℕ) (at end : ℕ) → end - at < m → end - at < n
+  pub turns-enough : ((x : S) → Takes (f x)) → (m n : ℕ) (x : S) (s : List ℕ) (at end : ℕ) → end - at < m → end - at < n
       → turns m on f x s at end ≡ turns n on f x s at end
   unfolding turns
   turns-enough t zero n x s at end h g = absurd (omega arith)

@@ -3,3 +3,4 @@ pub mod StreamLawful
 pub mod PromiseLaws
 pub mod Demands
 pub mod All
+pub mod StreamMoves

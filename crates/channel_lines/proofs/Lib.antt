@@ -4,3 +4,6 @@ pub mod BookLaws
 pub mod TupleLaws
 pub mod SpectrumLaws
 pub mod SpectrumLawful
+pub mod SpectrumMoves
+pub mod GroupCounts
+pub mod SpectrumMost

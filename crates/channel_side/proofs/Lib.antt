@@ -7,3 +7,4 @@ pub mod PulseLaws
 pub mod LineLaws
 pub mod SideLawful
 pub mod KnownBooks
+pub mod SideMoves

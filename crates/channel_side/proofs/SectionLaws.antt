@@ -35,7 +35,7 @@ increment-lawful : (width room : ℕ) (x : Length) → Lawful (increment width r
 unfolding increment
 increment-lawful width room x = bind-lawful _ _ (expecting-lawful 22 _ _ (field-lawful width)) (λ v. give-lawful _)
 
-increment-takes : (width room : ℕ) → 0 < width → (x : Length) → Takes (increment width room x)
+pub increment-takes : (width room : ℕ) → 0 < width → (x : Length) → Takes (increment width room x)
 unfolding increment
 increment-takes width room h x = bind-takes _ _ (expecting-takes 22 _ _ (field-takes width h)) (λ v. give-lawful _)
 
@@ -111,7 +111,7 @@ module _ (width maxSfb base : ℕ) (h : 0 < width) where
   section-lawful x =
       bind-lawful _ _ (expecting-lawful 23 _ _ (field-lawful 4)) λ book. bind-lawful _ _ (length-lawful width _ h) (λ n. give-lawful _)
 
-  section-takes : (x : Covered) → Takes (section width maxSfb base x)
+  pub section-takes : (x : Covered) → Takes (section width maxSfb base x)
   unfolding section sectionBook
   section-takes x =
       bind-takes _ _ (expecting-takes 23 _ _ (field-takes 4 (omega arith))) λ book.

@@ -43,7 +43,7 @@ groups-lawful width maxSfb h [] base books = give-lawful books
 groups-lawful width maxSfb h (n ∷ ns) base books =
     bind-lawful _ _ (group-lawful width maxSfb base h books) (groups-lawful width maxSfb h ns _)
 
-width-pos : (short : Bool) → 0 < widthOf short
+pub width-pos : (short : Bool) → 0 < widthOf short
 unfolding widthOf
 width-pos true = omega arith
 width-pos false = omega arith

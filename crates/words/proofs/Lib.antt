@@ -8,3 +8,5 @@ pub mod CompleteLaws
 pub mod EscapeLaws
 pub mod Examples
 pub mod WordNumbered
+pub mod WordMoves
+pub mod EscapeMost
