@@ -76,7 +76,8 @@ unfolding pulses
 pulses-lawful index short = search (laws, pulseData-lawful) depth 8
 
 -- a change of the lines reads nothing
-changed-at : (z : ℤ) (line place : ℕ) (lines : List ℤ) (at next : ℕ) (a : List ℤ) → changed z line place lines at ≡ got a next → at ≡ next
+pub changed-at : (z : ℤ) (line place : ℕ) (lines : List ℤ) (at next : ℕ) (a : List ℤ) → changed z line place lines at ≡ got a next
+    → at ≡ next
 unfolding changed
 changed-at z line place lines at next a e = go (leb (natAbs z) 8191) _ e
   where

@@ -22,7 +22,7 @@ use Rattle.channel_side.specs.Factors.{Factors, factor, bandFactor, firs
 use Rattle.channel_side.specs.Pulses.{Laid, Pulses, noneLaid, allLaid, pulse, eachPulse, startBand, pulseData, noPulses, pulses}
 use Rattle.channel_side.specs.Pulses.{changed, applyPulse, applyPulses}
 use Rattle.channel_side.proofs.SectionLaws.{increment-takes, section-takes}
-use Rattle.channel_side.proofs.SideLawful.{width-pos}
+use Rattle.channel_side.proofs.SideLawful.{width-pos, changed-at}
 
 ruleset laws = (bind-moves, give-moves, pick-moved, expecting-moves, field-moves, zeroBit-moves, counted-moves)
 
@@ -116,15 +116,15 @@ pulses-moved index short =
     then-moved (expecting-moves 25 _ _ (field-moves 1)) λ flag.
     pick-moved (eqb flag 1) (data-moved index) (give-moved (like-itself noPulses))
 
--- a change of the lines that is accepted is accepted whatever the pulse's place is, and reads nothing
-changed-got : (z : ℤ) (line place : ℕ) (lines : List ℤ) (at next : ℕ) (a : List ℤ) → changed z line place lines at ≡ got a next
-    → (next ≡ at) × ((place′ at′ : ℕ) → changed z line place′ lines at′ ≡ got a at′)
+-- a change of the lines that is accepted is accepted whatever the pulse's place is
+changed-anywhere : (z : ℤ) (line place : ℕ) (lines : List ℤ) (at next : ℕ) (a : List ℤ) → changed z line place lines at ≡ got a next
+    → (place′ at′ : ℕ) → changed z line place′ lines at′ ≡ got a at′
 unfolding changed
-changed-got z line place lines at next a e = by-size (leb (natAbs z) 8191) (set lines line z) e
+changed-anywhere z line place lines at next a e place′ at′ = by-size (leb (natAbs z) 8191) (set lines line z) e
   where
     by-size : (b : Bool) (ls : List ℤ) → pick b (got ls at) (refused 26 place) ≡ got a next
-        → (next ≡ at) × ((place′ at′ : ℕ) → pick b (got ls at′) (refused 26 place′) ≡ got a at′)
-    by-size true ls e = ((let q : at ≡ next = cc in sym q), λ place′ at′. ap (λ (l : List ℤ). got l at′) (same-value e))
+        → pick b (got ls at′) (refused 26 place′) ≡ got a at′
+    by-size true ls e = ap (λ (l : List ℤ). got l at′) (same-value e)
     by-size false ls e = never e
 
 apply-moved : (x : Pulses) (places : List ℕ) (k : ℕ) (lines lines′ : List ℤ) → lines ≡ lines′
@@ -133,8 +133,7 @@ unfolding applyPulse
 apply-moved x places k lines lines′ same =
     subst (λ ls. Moved _≡_ (applyPulse x k lines) (applyPulse (placedAt x places) k ls)) same (
     still-moved λ s at end next a e.
-    let w = changed-got _ _ _ lines at next a e in
-    (w .0, λ t at′ end′. (a, refl, w .1 _ at′)))
+    (sym (changed-at _ _ _ lines at next a e), λ t at′ end′. (a, refl, changed-anywhere _ _ _ lines at next a e _ at′)))
 
 pub applied-moved : (x y : Pulses) → LikePulses x y → (lines : List ℤ) → Moved _≡_ (applyPulses x lines) (applyPulses y lines)
 unfolding applyPulses
