@@ -16,7 +16,7 @@ use Rattle.bits.proofs.FieldLaws.{field-taken}
 use Rattle.bits.proofs.PlacesLaws.{placed-got}
 use Rattle.bits.proofs.Gives.{Gives}
 
--- a count of bits that is before at the start is no more than after at the value's end
+-- the bits that are taken bring a count from a number before to no more than a number after, which goes by the value
 pub record Costs {A : Type 0} (before : ℕ) (after : A → ℕ) (r : Reader A) : Type 0 where
   pub law : (s : List ℕ) (at end next : ℕ) (a : A) → r s at end ≡ got a next → next + before ≤ at + after a
 
@@ -81,7 +81,7 @@ pub bind-costs : {A B : Type 0} {m : ℕ} {f : A → ℕ} {g : B → ℕ} {r : R
     → ((a : A) → Costs (f a) g (k a)) → Costs m g (r >>= k)
 bind-costs c d = known-costs (λ a. Unit {0}) (record { law = λ s at end next a e. tt }) c (λ a p. d a)
 
--- a loop of fewer than k turns, by the count before each turn
+-- a loop whose turns lie before turn k, by the count before each turn
 pub counted-costs : {S : Type 0} (c : ℕ → ℕ) (k : ℕ) {f : ℕ → S → Reader S}
     → ((i : ℕ) → i < k → (x : S) → Costs (c i) (λ y. c (i + 1)) (f i x)) → (i n : ℕ) → i + n ≤ k → (x : S)
     → Costs (c i) (λ y. c (i + n)) (counted i n f x)
