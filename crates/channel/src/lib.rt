@@ -12,7 +12,7 @@ use bits::Ended;
 use bits::bytes;
 use bits::calls::is_known_index;
 
-mod stream;
+pub mod stream;
 
 // What a call found: 0 and the numbers of a stream, with the windows of each group and the bits used; or a refusal's number.
 pub struct Reading {
@@ -27,7 +27,7 @@ pub struct Reading {
 }
 
 // What is judged before any bit is read: a refusal's number, or 0.
-fn channel_call_refusal(
+pub fn channel_call_refusal(
     size: usize,
     start: usize,
     end: usize,
@@ -60,7 +60,7 @@ fn channel_call_refusal(
 }
 
 // The answer to a refusal.
-fn refused(number: u8) -> Reading
+pub fn refused(number: u8) -> Reading
     ensures { λ r. ⌜ r ≡ refusal number ⌝ }
 {
     Reading {
@@ -76,7 +76,7 @@ fn refused(number: u8) -> Reading
 }
 
 // The answer to a stream with a head, and the bits that it used.
-fn answer(head: Head, bits: usize) -> Reading
+pub fn answer(head: Head, bits: usize) -> Reading
     ensures { λ r. ⌜ r ≡ accepted head bits ⌝ }
 {
     let window = head.window;
@@ -95,7 +95,7 @@ fn answer(head: Head, bits: usize) -> Reading
 }
 
 // The lines are copied to the front of a lent output.
-fn copy_lines(out: &mut [i16], lines: [i16; 1024])
+pub fn copy_lines(out: &mut [i16], lines: [i16; 1024])
     requires { ⌜ 1024 ≤ length (now out) ⌝ }
     ensures { λ _. ⌜ now (out .exit) ≡ lines ++ drop 1024 (now (out .entry)) ⌝ }
 {
@@ -107,7 +107,7 @@ fn copy_lines(out: &mut [i16], lines: [i16; 1024])
 }
 
 // A number for each band is copied to the front of a lent output.
-fn copy_bands(out: &mut [u8], bands: [u8; 120])
+pub fn copy_bands(out: &mut [u8], bands: [u8; 120])
     requires { ⌜ 120 ≤ length (now out) ⌝ }
     ensures { λ _. ⌜ now (out .exit) ≡ bands ++ drop 120 (now (out .entry)) ⌝ }
 {

@@ -39,7 +39,7 @@ pub struct ReadHead {
 }
 
 // A refusal, with no head.
-fn refused_head(ended: Ended) -> ReadHead
+pub fn refused_head(ended: Ended) -> ReadHead
     ensures { λ r. ⌜ (r .ended ≡ ended) × (r .head ≡ noHead) ⌝ }
 {
     let window = no_window();
@@ -296,9 +296,10 @@ fn read_body(
     )
 }
 
-// A stream from bit 0 on, with the edges of all bands, into arrays of zeros.
-pub fn read_stream(
+// A stream, with the edges of all bands, into arrays of zeros.
+fn read_stream(
     s: &[u8],
+    at: usize,
     end: usize,
     codes: &[u32],
     lens: &[u8],
@@ -311,9 +312,9 @@ pub fn read_stream(
     requires { ⌜ (end ≤ 8 * length (now s)) × Tables (now codes) (now lens) × (now edges ≡ allEdges)
         × (now books ≡ replicate 120 0) × (now factors ≡ replicate 120 0) × (now lines ≡ replicate 1024 (pos 0)) ⌝ }
     ensures { λ r. ⌜ HoldsStream (r .ended) (r .head) (now (books .exit)) (now (factors .exit)) (now (lines .exit))
-        (stream index (now (s .entry)) 0 end) ⌝ }
+        (stream index (now (s .entry)) at end) ⌝ }
 {
-    let read = read_head(s, 0, end, index);
+    let read = read_head(s, at, end, index);
     let head_ended = read.ended;
     let Ended::At(after_head) = head_ended else {
         return read;
@@ -335,6 +336,40 @@ pub fn read_stream(
     ReadHead { ended, head }
 }
 
+// A stream from a place to an end, into arrays of zeros; what is left after it is not judged.
+pub fn read_from(
+    s: &[u8],
+    at: usize,
+    end: usize,
+    index: u8,
+    books: &mut [u8; 120],
+    factors: &mut [u8; 120],
+    lines: &mut [i16; 1024],
+) -> ReadHead
+    requires { ⌜ (end ≤ 8 * length (now s))
+        × (now books ≡ replicate 120 0)
+        × (now factors ≡ replicate 120 0)
+        × (now lines ≡ replicate 1024 (pos 0)) ⌝ }
+    ensures { λ r. ⌜ HoldsStream (r .ended) (r .head) (now (books .exit)) (now (factors .exit)) (now (lines .exit))
+        (stream index (now (s .entry)) at end) ⌝ }
+{
+    let codes = tables::codes();
+    let lens = tables::lens();
+    let edges = channel_lines::bands::edges();
+    read_stream(
+        s,
+        at,
+        end,
+        &codes,
+        &lens,
+        &edges,
+        index,
+        books,
+        factors,
+        lines,
+    )
+}
+
 // A whole payload, into arrays of zeros: at most 7 bits are left after it.
 pub fn read_payload(
     s: &[u8],
@@ -350,11 +385,8 @@ pub fn read_payload(
     ensures { λ r. ⌜ HoldsStream (r .ended) (r .head) (now (books .exit)) (now (factors .exit)) (now (lines .exit))
         (whole (stream index) (now (s .entry))) ⌝ }
 {
-    let codes = tables::codes();
-    let lens = tables::lens();
-    let edges = channel_lines::bands::edges();
     let end = 8 * s.len();
-    let read = read_stream(s, end, &codes, &lens, &edges, index, books, factors, lines);
+    let read = read_from(s, 0, end, index, books, factors, lines);
     let stream_ended = read.ended;
     let Ended::At(next) = stream_ended else {
         return read;

@@ -24,7 +24,7 @@ returns-2 c =
     let at-head = head .before .before in
     let x = at-head .before .before .before .before .before .args in
     let e = ended-is _ (at-head .read-head .ensures .0) (head .head-ended .given .1) in
-    rw (stream-on (x .index) (x .s .now) 0 (x .end) e) (c .read-body .ensures)
+    rw (stream-on (x .index) (x .s .now) (x .at) (x .end) e) (c .read-body .ensures)
 
 pub read-stream-spec : {M : Type 1} → statement M
 read-stream-spec =

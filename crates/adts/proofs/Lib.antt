@@ -1,0 +1,5 @@
+pub mod HeaderLaws
+pub mod BlockLaws
+pub mod CutLaws
+pub mod WrappingLaws
+pub mod PromiseLaws
