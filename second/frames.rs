@@ -1,6 +1,6 @@
 //! What is printed of an ADTS file, and the tag image that is made of one.
 
-use crate::adts::{self, Frame};
+use crate::adts::{self, Frame, Refused};
 use crate::bits::{Number, Tables};
 use crate::{dump_channel, header, set_lines};
 
@@ -23,27 +23,39 @@ fn cut_rows(frame: &Frame, tables: &Tables, out: &mut String) {
     }
 }
 
+/// The line of an accepted frame.
+fn line(frame: &Frame) -> String {
+    let (header, channel, set) = (&frame.header, &frame.channel, set_lines(&frame.channel));
+    format!("length {} index {} channel gain {} lines {set} bits {}", header.length, header.index, channel.gain, channel.bits)
+}
+
+/// The length of a refused frame, where a next frame is known.
+fn length_of(refused: &Refused) -> Option<usize> {
+    match refused.number {
+        10 | 50 | 51 | 52 => None,
+        _ => refused.header.map(|header| header.length),
+    }
+}
+
 /// A line a frame, and with `cut` the rows under it, as far as a next frame is known.
 pub fn listing(file: &[u8], cut: bool, tables: &Tables) -> String {
     let (mut out, mut start, mut number) = (String::new(), 0, 0);
     while start < file.len() {
-        let header = match adts::read(file, start, tables) {
+        let length = match adts::read(file, start, tables) {
             Ok(frame) => {
-                let (channel, set) = (&frame.channel, set_lines(&frame.channel));
-                out += &format!("{number} frame at {start} length {} index {} ", frame.header.length, frame.header.index);
-                out += &format!("channel gain {} lines {set} bits {}\n", channel.gain, channel.bits);
+                out += &format!("{number} frame at {start} {}\n", line(&frame));
                 if cut {
                     cut_rows(&frame, tables, &mut out);
                 }
-                Some(frame.header)
+                Some(frame.header.length)
             }
             Err(refused) => {
                 out += &format!("{number} frame at {start} refused {}\n", refused.number);
-                refused.header
+                length_of(&refused)
             }
         };
-        match header {
-            Some(header) => start += header.length,
+        match length {
+            Some(length) => start += length,
             None => break,
         }
         number += 1;

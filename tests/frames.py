@@ -139,39 +139,48 @@ def loud_blocks(rng):
     for index in INDICES:
         frames = []
         for stream in streams:
-            whole = packed(block(stream))
-            ends = [packed(block(stream)[:-3] + bits(element, 3)) for element in range(8)]
-            frames += ends + [whole[:-k] for k in range(1, 8)] + [whole + rng.randbytes(2)]
+            frames += [packed(block(stream)[:-3] + bits(element, 3)) for element in range(8)] + [packed(block(stream)) + rng.randbytes(2)]
         yield b"".join(framed(data, index=index) for data in frames)
+        for stream in rng.sample(streams, 5):
+            whole = packed(block(stream))
+            yield b"".join(framed(data, index=index) for data in (whole, whole[:-1], whole))
+
+
+def damaged_block(rng, index):
+    """A block with bits flipped, or damaged in another way and with some bytes after it, in which what is still asked for may be found."""
+    data = packed(block(channel_bits(rng, index)))
+    if rng.random() < 0.4:
+        for _ in range(rng.choice([1, 1, 2, 5])):
+            data = flipped(data, rng.randrange(8 * len(data)))
+        return data
+    return (damaged(rng, data) + rng.randbytes(rng.randint(0, 300)))[:LONGEST_FRAME - HEADER]
 
 
 def damaged_files(rng):
-    """Damaged streams, each in a frame of its own that has its length."""
-    for number in range(48):
+    """Damaged blocks, each in a frame of its own that has its length. A listing ends where bits run out."""
+    for number in range(120):
         index = INDICES[number % 4]
-        frames = []
-        for _ in range(60):
-            stream = packed(block(channel_bits(rng, index)))
-            frames.append(framed(damaged(rng, stream)[:LONGEST_FRAME - HEADER], index=index, **free_fields(rng)))
-        yield b"".join(frames)
+        yield b"".join(framed(damaged_block(rng, index), index=index, **free_fields(rng)) for _ in range(30))
 
 
 def noise_blocks(rng):
     """Accepted headers before any bytes, some with a channel element's id first."""
-    for number in range(8):
+    for number in range(40):
         frames = []
-        for _ in range(250):
-            data = rng.randbytes(rng.randint(0, 40))
-            frames.append(framed(bytes([data[0] & 31]) + data[1:] if data and rng.random() < 0.8 else data, index=INDICES[number % 4]))
+        for _ in range(60):
+            data = rng.randbytes(rng.randint(20, 80))
+            frames.append(framed(bytes([data[0] & 31]) + data[1:] if rng.random() < 0.8 else data, index=INDICES[number % 4]))
         yield b"".join(frames)
 
 
 def cut_blocks(rng):
-    """A block cut at each byte, as a frame that ends there; the same longer by some bytes."""
-    for number in range(12):
-        index = INDICES[number % 4]
-        whole = filled(rng, block(short_stream(rng, index, 300, 900)))
-        parts = [whole[:k] for k in range(len(whole) + 1)] + [whole + rng.randbytes(k) for k in range(1, 6)] + [whole + bytes(9)]
+    """A block cut at each byte, in a frame that ends there and before another frame; a block with some bytes after it."""
+    for index in INDICES:
+        whole = filled(rng, block(short_stream(rng, index, 150, 300)))
+        good = framed(whole, index=index)
+        for size in range(len(whole)):
+            yield framed(whole[:size], index=index, **free_fields(rng)) + good
+        parts = [whole + rng.randbytes(k) for k in range(1, 6)] + [whole + bytes(9), whole]
         yield b"".join(framed(part, index=index, **free_fields(rng)) for part in parts)
 
 
@@ -201,15 +210,17 @@ def fill_element(rng):
 def other_elements(rng):
     """Every id before the channel element, in its place, and after it; fill elements before and after; no element, and no end."""
     for index in INDICES:
-        stream = short_stream(rng, index)
+        stream, after = short_stream(rng, index), "".join(rng.choice("01") for _ in range(400))
         texts = [bits(element, 3) + bits(rng.getrandbits(4), 4) + stream + END_ID for element in range(8)]
-        texts += [bits(element, 3) + bits(rng.getrandbits(4), 4) + block(stream) for element in range(8)]
+        texts += [bits(element, 3) + bits(rng.getrandbits(4), 4) + block(stream) for element in range(1, 8)]
         texts += [CHANNEL_ID + bits(rng.getrandbits(4), 4) + stream + bits(element, 3) for element in range(8)]
         texts += [block(stream)[:-3] + bits(element, 3) + bits(rng.getrandbits(4), 4) + END_ID for element in range(7)]
         texts += [fill_element(rng) + block(stream) for _ in range(6)] + [block(stream)[:-3] + fill_element(rng) + END_ID for _ in range(6)]
-        texts += ["", END_ID, block(stream)[:-3], block(stream) + block(stream), block("")]
+        texts += [END_ID, block(stream) + block(stream), block(block(stream)) + after]
         texts += [block(stream, tag) for tag in range(16)]
         yield b"".join(framed(packed(text), index=index, **free_fields(rng)) for text in texts)
+        for text in ("", block(stream)[:-3], block("")):
+            yield framed(packed(text), index=index) + framed(packed(block(stream)), index=index)
 
 
 # ---- headers at fault
