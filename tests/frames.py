@@ -1,4 +1,4 @@
-"""ADTS files made by fixed seeds: sound ones, each judged field at fault, cut, flipped, with other elements, and bytes that are no frames."""
+"""ADTS files made by fixed seeds: sound ones, each judged field at fault, cut, flipped, with other elements; bytes that are no frames."""
 import functools
 import os
 import random
@@ -7,10 +7,12 @@ from generate import SHORT_BANDS, TOP, WORDS, bits, channel_bits, damaged, packe
 
 INDICES = (3, 4, 6, 7)
 # The header's fields, in order, with their bits; those that are not judged; and of the others, but for the length, the numbers that stand.
-FIELDS = (("sync", 12), ("version", 1), ("layer", 2), ("protection_absent", 1), ("profile", 2), ("index", 4), ("private", 1), ("channels", 3),
-          ("original", 1), ("home", 1), ("copyright_id", 1), ("copyright_start", 1), ("length", 13), ("fullness", 11), ("more_blocks", 2))
+FIELDS = (("sync", 12), ("version", 1), ("layer", 2), ("protection_absent", 1), ("profile", 2), ("index", 4), ("private", 1),
+          ("channels", 3), ("original", 1), ("home", 1), ("copyright_id", 1), ("copyright_start", 1), ("length", 13), ("fullness", 11),
+          ("more_blocks", 2))
 FREE = ("version", "private", "original", "home", "copyright_id", "copyright_start", "fullness")
-JUDGED = {"sync": (4095,), "layer": (0,), "protection_absent": (1,), "profile": (1,), "index": INDICES, "channels": (1,), "more_blocks": (0,)}
+JUDGED = {"sync": (4095,), "layer": (0,), "protection_absent": (1,), "profile": (1,), "index": INDICES, "channels": (1,),
+          "more_blocks": (0,)}
 SIZES = dict(FIELDS)
 HEADER, LONGEST_FRAME, IMAGE_HEADER, LONGEST_IMAGE = 7, 8191, 6, 65535
 CHANNEL_ID, END_ID = "000", "111"
