@@ -1,4 +1,4 @@
-/* cut: reads an ADTS file of any length from standard input and prints the channel stream of each frame, a line a frame, as hexadecimal digits. */
+/* cut: reads an ADTS file of any length from standard input and prints the channel stream of each frame, a line a frame, in hexadecimal. */
 #include <stdio.h>
 #include <string.h>
 
