@@ -96,9 +96,11 @@ def published_files(rng):
 
 
 def long_files(rng):
-    """As many frames as an image takes, and one more; streams that fill an image, and one byte more; the longest stream."""
+    """As many frames as an image takes, and one more; streams that fill one, and one byte more; the longest stream; half a mebibyte."""
     for count in (511, 512, 513, 1500):
         yield framed(packed(block(SILENCE))) * count
+    published = b"".join(free_frame(rng, 4, stream) for stream in published_streams(4))
+    yield published * (524288 // len(published))
     for index in INDICES:
         yield framed(packed(block(longest_stream(index))), index=index) * 3
         for more in (0, 1):
@@ -313,8 +315,19 @@ def noisy_files(rng):
 
 
 @functools.lru_cache
+def real_files():
+    """The files of real encoders."""
+    found, folder = [], os.path.join(TOP, "tests", "adts")
+    for name in sorted(os.listdir(folder)):
+        if name.endswith(".adts"):
+            with open(os.path.join(folder, name), "rb") as f:
+                found.append(f.read())
+    return found
+
+
+@functools.lru_cache
 def made_files():
-    """Every file."""
+    """Every made file."""
     rng = random.Random(20270109)
     makers = (sound_files, published_files, long_files, loud_blocks, damaged_files, noise_blocks, cut_blocks, left_bits, other_elements,
               faulty_fields, faulty_together, lengths, cut_files, flipped_files, noisy_files)

@@ -15,9 +15,11 @@ from images import KEEP_STEREO, SILENT_CHANNEL, image  # noqa: E402
 NOT_READ = "standard input cannot be read"
 NOT_WRITTEN = "standard output cannot be written"
 LINES_MISSING = NOT_WRITTEN + ": lines are missing"
+SHORT_IMAGE = image(4, [SILENT_CHANNEL, KEEP_STEREO])
 LONG_IMAGE = image(4, [SILENT_CHANNEL, KEEP_STEREO] * 512)
-# As many frames as an image takes, and many more.
-FULL_FILE = framed(packed(block(SILENCE))) * 512
+# One frame, as many as an image takes, and many more.
+SHORT_FILE = framed(packed(block(SILENCE)))
+FULL_FILE = SHORT_FILE * 512
 LONG_FILE = FULL_FILE * 4
 PIPE_ROOM = 4096
 LONGEST = 60
