@@ -1,4 +1,5 @@
-/* Oarcradler for a program in C: a tag's channel streams and stereo payloads read into numbers, stereo payloads written.
+/* Oarcradler for a program in C: a tag's channel streams and stereo payloads read into numbers, stereo payloads written, ADTS frames read, cut
+ * and made.
  *
  * Every function takes byte buffers that the caller owns, each as a pointer and a length, and keeps nothing after the call. Buffers of one call
  * must not overlap. It answers 0, or the number of a refusal. docs/C.md describes every byte. */
@@ -14,18 +15,22 @@ extern "C" {
 
 /* How much each buffer holds at least. A longer one is taken, and what stands past the layout is left alone. */
 enum oarcradler_size {
-    OARCRADLER_STATE = 146,   /* bytes of the stereo state */
-    OARCRADLER_STEREO = 582,  /* bytes of a stereo answer, and of contents to write */
-    OARCRADLER_CHANNEL = 17,  /* bytes of a channel answer */
-    OARCRADLER_LINES = 1024,  /* lines of a channel stream, an int16_t each */
-    OARCRADLER_FACTORS = 120, /* bytes of scale factors */
-    OARCRADLER_BOOKS = 120,   /* bytes of books */
-    OARCRADLER_HEADER = 8,    /* bytes of an image header's answer */
-    OARCRADLER_PART = 8,      /* bytes of a part's answer */
-    OARCRADLER_INDICES = 34,  /* indices of a record, and of a row */
-    OARCRADLER_RECORD = 35,   /* bytes of a record of the state: its mode, its indices */
-    OARCRADLER_ROW = 35,      /* bytes of a row of an envelope: its time flag, its indices */
-    OARCRADLER_ENVELOPE = 140 /* bytes of an envelope: four rows */
+    OARCRADLER_STATE = 146,        /* bytes of the stereo state */
+    OARCRADLER_STEREO = 582,       /* bytes of a stereo answer, and of contents to write */
+    OARCRADLER_CHANNEL = 17,       /* bytes of a channel answer */
+    OARCRADLER_LINES = 1024,       /* lines of a channel stream, an int16_t each */
+    OARCRADLER_FACTORS = 120,      /* bytes of scale factors */
+    OARCRADLER_BOOKS = 120,        /* bytes of books */
+    OARCRADLER_HEADER = 8,         /* bytes of an image header's answer */
+    OARCRADLER_PART = 8,           /* bytes of a part's answer */
+    OARCRADLER_INDICES = 34,       /* indices of a record, and of a row */
+    OARCRADLER_RECORD = 35,        /* bytes of a record of the state: its mode, its indices */
+    OARCRADLER_ROW = 35,           /* bytes of a row of an envelope: its time flag, its indices */
+    OARCRADLER_ENVELOPE = 140,     /* bytes of an envelope: four rows */
+    OARCRADLER_FRAME = 22,         /* bytes of a frame's answer */
+    OARCRADLER_WRAPPED = 4,        /* bytes of a wrapping's answer */
+    OARCRADLER_STREAM_MOST = 4750, /* bytes that are enough for every stream that is cut out of a frame */
+    OARCRADLER_FRAME_MOST = 4760   /* bytes that are enough for every frame that wraps a stream */
 };
 
 /* The numbers that come back. */
@@ -52,7 +57,11 @@ enum oarcradler_number {
     OARCRADLER_EXTENSION = 33,         /* extension too small for its contents, or a second v0 in it */
     OARCRADLER_NO_MODE = 34,           /* phase data with no IID mode ever sent */
     OARCRADLER_OUT_OF_STEP = 35,       /* out of step and not a restart */
-    OARCRADLER_CANNOT_BE_WRITTEN = 40  /* contents that can't be written */
+    OARCRADLER_CANNOT_BE_WRITTEN = 40, /* contents that can't be written */
+    OARCRADLER_NO_SYNC = 50,           /* a frame does not begin with the sync word */
+    OARCRADLER_OTHER_FRAME = 51,       /* a frame with another layer, profile, sampling index or channels, with check words or more blocks */
+    OARCRADLER_FRAME_SIZE = 52,        /* frame length below 7, or past the bytes there */
+    OARCRADLER_OTHER_ELEMENT = 53      /* another element than the channel's or, after it, than the end */
 };
 
 /* Where the bytes of the stereo state stand. Indices are int8_t. */
@@ -114,6 +123,13 @@ enum oarcradler_image {
     OARCRADLER_PART_END = 4      /* the byte after its last */
 };
 
+/* Where the bytes of a frame's answer and of a wrapping's answer stand. A frame's answer begins as a channel answer. */
+enum oarcradler_frame {
+    OARCRADLER_FRAME_LENGTH = 17, /* a word: the frame's length in bytes; the next frame starts after so many */
+    OARCRADLER_FRAME_INDEX = 21,  /* the sampling index */
+    OARCRADLER_WRAPPED_LENGTH = 0 /* a word: the length in bytes of the frame that was written */
+};
+
 /* A word of an answer: four bytes, the most significant first. */
 static inline uint32_t oarcradler_word(const uint8_t *at)
 {
@@ -145,6 +161,21 @@ uint32_t oarcradler_read_header(const uint8_t *image, size_t image_size, uint8_t
 
 /* The payload k of a tag image: where it starts and ends is written as two words. 2, 5, 3, 1 where there is no such payload, or 0. */
 uint32_t oarcradler_find_part(const uint8_t *image, size_t image_size, uint32_t k, uint8_t *answer, size_t answer_size);
+
+/* The ADTS frame that starts at a byte of a file: lines, scale factors, books and the answer are written. 1 where the start is past the file;
+ * 2; 10, 50, 51, 52 of the header; 10 to 26, 53 of the block; 12; each with nothing touched; or 0. Lengths are counted in elements. */
+uint32_t oarcradler_read_frame(const uint8_t *file, size_t file_size, size_t start, int16_t *lines, size_t line_count, uint8_t *factors,
+    size_t factors_size, uint8_t *books, size_t books_size, uint8_t *answer, size_t answer_size);
+
+/* The channel stream of the ADTS frame that starts at a byte of a file is written, its last byte filled up with zero bits, and the frame's
+ * answer. 1, 2 for the answer, then as oarcradler_read_frame refuses, last 2 where the stream doesn't fit; each with nothing touched; or 0. */
+uint32_t oarcradler_unwrap_frame(const uint8_t *file, size_t file_size, size_t start, uint8_t *out, size_t out_size, uint8_t *answer,
+    size_t answer_size);
+
+/* The channel stream in bytes start to end (not included) of a buffer, for a sampling index, is written as one ADTS frame, and the frame's
+ * length as a word. 1, 2 for the answer, 3, 10 to 26, 12, last 2 where the frame doesn't fit; each with nothing touched; or 0. */
+uint32_t oarcradler_wrap_stream(const uint8_t *buffer, size_t buffer_size, uint32_t start, uint32_t end, uint32_t index, uint8_t *out,
+    size_t out_size, uint8_t *answer, size_t answer_size);
 
 #ifdef __cplusplus
 }

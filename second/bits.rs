@@ -33,6 +33,14 @@ impl<'a> Bits<'a> {
         Ok((0..n).fold(0, |value, _| value << 1 | self.bit()))
     }
 
+    /// The end of what is read: 12 where more than 7 bits are left.
+    pub fn nearly_done(&self) -> Result<(), Number> {
+        if self.left() > 7 {
+            return Err(12);
+        }
+        Ok(())
+    }
+
     /// A word of a table, its entry.
     pub fn word(&mut self, table: &Table) -> Result<usize, Number> {
         let mut node = 0;
@@ -60,6 +68,33 @@ impl<'a> Bits<'a> {
             }
         }
         Ok((1 << (ones + 4)) + self.field(ones + 4)?)
+    }
+}
+
+/// Bits that are written one after another, the last byte filled up with zero bits.
+#[derive(Default)]
+pub struct Written {
+    pub bytes: Vec<u8>,
+    count: usize,
+}
+
+impl Written {
+    /// A number in so many bits.
+    pub fn put(&mut self, value: u32, width: usize) {
+        for k in (0..width).rev() {
+            if self.count % 8 == 0 {
+                self.bytes.push(0);
+            }
+            *self.bytes.last_mut().expect("a byte") |= ((value >> k & 1) as u8) << (7 - self.count % 8);
+            self.count += 1;
+        }
+    }
+
+    /// So many bits from the place where others stand, which must have them.
+    pub fn copy(&mut self, from: &mut Bits, count: usize) {
+        for _ in 0..count {
+            self.put(from.bit(), 1);
+        }
     }
 }
 

@@ -136,8 +136,17 @@ fn tuple(b: &mut Bits, book: u32, tables: &Tables) -> Result<Vec<i32>, Number> {
     Ok(values)
 }
 
+/// A payload: a channel stream from its first bit, and at most 7 bits after it.
 pub fn read(bytes: &[u8], index: u32, tables: &Tables) -> Result<Channel, Number> {
     let mut b = Bits::new(bytes);
+    let found = read_from(&mut b, index, tables)?;
+    b.nearly_done()?;
+    Ok(found)
+}
+
+/// A channel stream from the place where the bits stand; what comes after it is not looked at.
+pub fn read_from(b: &mut Bits, index: u32, tables: &Tables) -> Result<Channel, Number> {
+    let start = b.at;
     let gain = b.field(8)?;
     if b.field(1)? == 1 {
         return Err(13);
@@ -156,7 +165,7 @@ pub fn read(bytes: &[u8], index: u32, tables: &Tables) -> Result<Channel, Number
     }
     let mut books = Vec::new();
     for _ in &groups {
-        books.extend(section_books(&mut b, short, max_sfb)?);
+        books.extend(section_books(b, short, max_sfb)?);
     }
     let mut factors = Vec::new();
     let mut last = gain as i32;
@@ -171,7 +180,7 @@ pub fn read(bytes: &[u8], index: u32, tables: &Tables) -> Result<Channel, Number
         }
         factors.push(last);
     }
-    let pulses = pulses(&mut b, short, &bands(index, false))?;
+    let pulses = pulses(b, short, &bands(index, false))?;
     for _ in 0..2 {
         if b.field(1)? == 1 {
             return Err(20);
@@ -185,7 +194,7 @@ pub fn read(bytes: &[u8], index: u32, tables: &Tables) -> Result<Channel, Number
             for window in first_window..first_window + windows {
                 let mut line = 128 * window + edges[band];
                 while book != 0 && line < 128 * window + edges[band + 1] {
-                    for value in tuple(&mut b, book, tables)? {
+                    for value in tuple(b, book, tables)? {
                         lines[line] = value;
                         line += 1;
                     }
@@ -201,8 +210,5 @@ pub fn read(bytes: &[u8], index: u32, tables: &Tables) -> Result<Channel, Number
             return Err(26);
         }
     }
-    if b.left() > 7 {
-        return Err(12);
-    }
-    Ok(Channel { gain, sequence, shape, max_sfb, groups, books, factors, lines, bits: b.at })
+    Ok(Channel { gain, sequence, shape, max_sfb, groups, books, factors, lines, bits: b.at - start })
 }

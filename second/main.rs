@@ -1,7 +1,11 @@
-//! The second program: reads a tag image from standard input and prints its listing or its dump. Written from the rules alone, to be compared with the proved one.
+//! The second program: reads a tag image from standard input and prints its listing, its dump or the frames that wrap its channel streams;
+//! or reads an ADTS file and prints its listing, its numbers and streams, or a tag image. Written from the rules alone, to be compared with
+//! the proved ones.
 
+mod adts;
 mod bits;
 mod channel;
+mod frames;
 mod stereo;
 
 use bits::{Number, Tables};
@@ -37,6 +41,11 @@ fn header(bytes: &[u8]) -> Result<Image, Number> {
 
 fn joined<T: Display>(items: impl IntoIterator<Item = T>) -> String {
     items.into_iter().map(|item| format!(" {item}")).collect()
+}
+
+/// How many lines of a channel stream are not 0.
+fn set_lines(found: &Channel) -> usize {
+    found.lines.iter().filter(|line| **line != 0).count()
 }
 
 fn dump_channel(found: &Channel, out: &mut String) {
@@ -99,18 +108,18 @@ fn dump_state(state: &State, out: &mut String) {
     }
 }
 
-fn print_image(bytes: &[u8], dump: bool, tables: &Tables, out: &mut String) -> Result<(), Number> {
+fn printed_image(bytes: &[u8], dump: bool, tables: &Tables) -> Result<String, Number> {
     let image = header(bytes)?;
     let mut state = State::fresh();
-    *out += &format!("payloads {}\n", image.offsets.len() - 1);
+    let mut text = format!("payloads {}\n", image.offsets.len() - 1);
+    let out = &mut text;
     for (number, ends) in image.offsets.windows(2).enumerate() {
         let part = &bytes[ends[0]..ends[1]];
         if number % 2 == 0 {
             match channel::read(part, image.index, tables) {
                 Err(refusal) => *out += &format!("{number} channel refused {refusal}\n"),
                 Ok(found) => {
-                    let set = found.lines.iter().filter(|line| **line != 0).count();
-                    *out += &format!("{number} channel gain {} lines {set} bits {}\n", found.gain, found.bits);
+                    *out += &format!("{number} channel gain {} lines {} bits {}\n", found.gain, set_lines(&found), found.bits);
                     if dump {
                         dump_channel(&found, out);
                     }
@@ -131,21 +140,35 @@ fn print_image(bytes: &[u8], dump: bool, tables: &Tables, out: &mut String) -> R
             dump_state(&state, out);
         }
     }
-    Ok(())
+    Ok(text)
+}
+
+/// What is printed of an image: its text, or that it is refused.
+fn or_refused(printed: Result<String, Number>) -> String {
+    printed.unwrap_or_else(|number| format!("image refused {number}\n"))
+}
+
+/// What is written for an input, or why nothing is.
+fn output(what: &str, bytes: &[u8]) -> Result<Vec<u8>, String> {
+    let tables = &Tables::parse(include_str!("../tables/words.tsv"));
+    match what {
+        "list" | "dump" => Ok(or_refused(printed_image(bytes, what == "dump", tables)).into_bytes()),
+        "wrapped" => Ok(or_refused(frames::wrapped(bytes, tables)).into_bytes()),
+        "frames" | "cut" => Ok(frames::listing(bytes, what == "cut", tables).into_bytes()),
+        "import" => frames::import(bytes, tables),
+        _ => Err("usage: second list|dump|wrapped < image, second frames|cut|import < file".to_string()),
+    }
 }
 
 fn main() {
-    let dump = match std::env::args().nth(1).as_deref() {
-        Some("list") => false,
-        Some("dump") => true,
-        _ => panic!("usage: second list|dump < image"),
-    };
+    let what = std::env::args().nth(1).unwrap_or_default();
     let mut bytes = Vec::new();
     std::io::stdin().read_to_end(&mut bytes).expect("standard input");
-    let tables = Tables::parse(include_str!("../tables/words.tsv"));
-    let mut out = String::new();
-    if let Err(number) = print_image(&bytes, dump, &tables, &mut out) {
-        out = format!("image refused {number}\n");
+    match output(&what, &bytes) {
+        Ok(out) => std::io::stdout().write_all(&out).expect("standard output"),
+        Err(why) => {
+            eprintln!("{why}");
+            std::process::exit(1);
+        }
     }
-    std::io::stdout().write_all(out.as_bytes()).expect("standard output");
 }

@@ -93,6 +93,11 @@ def spectral_word(rng, book):
 
 def channel(rng, index):
     """A channel stream that keeps every rule, but that a pulse may pass 8191."""
+    return packed(channel_bits(rng, index))
+
+
+def channel_bits(rng, index):
+    """The bits that such a stream uses."""
     grid = 3 if index <= 4 else 6
     sequence, gain = rng.choice([0, 1, 2, 2, 3]), rng.randint(0, 255)
     short = sequence == 2
@@ -122,7 +127,7 @@ def channel(rng, index):
             if book:
                 count = windows * (edges[band + 1] - edges[band]) // SHAPES[book][0]
                 text += "".join(spectral_word(rng, book) for _ in range(count))
-    return packed(text)
+    return text
 
 
 # ---- stereo payloads

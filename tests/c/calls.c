@@ -120,3 +120,62 @@ uint32_t call_find_part(struct image_call *call, uint32_t k)
     expect(same_but(&call->answer, 0, number == 0 ? OARCRADLER_PART : 0), "find_part: a byte was changed that is not the answer's");
     return number;
 }
+
+/* The numbers of a frame, in the order of their size. */
+static const uint32_t frame_numbers[] = { 1, 2, 10, 12, 13, 20, 21, 22, 23, 24, 25, 26, 50, 51, 52, 53, 0 };
+
+uint32_t call_read_frame(struct frame_call *call, size_t start)
+{
+    remember(&call->file), remember(&call->lines), remember(&call->factors), remember(&call->books), remember(&call->answer);
+    uint32_t number = oarcradler_read_frame(bytes_of(&call->file), call->file.size, start, (int16_t *)(void *)bytes_of(&call->lines),
+        call->lines.size / sizeof(int16_t), bytes_of(&call->factors), call->factors.size, bytes_of(&call->books), call->books.size,
+        bytes_of(&call->answer), call->answer.size);
+    int done = number == 0;
+    calls++;
+    expect(is_one_of(number, frame_numbers), "read_frame: a number that it never gives");
+    expect(same(&call->file), "read_frame: the file was changed");
+    expect(same_but(&call->lines, 0, done ? OARCRADLER_LINES * sizeof(int16_t) : 0), "read_frame: a byte was changed that is no line");
+    expect(same_but(&call->factors, 0, done ? OARCRADLER_FACTORS : 0), "read_frame: a byte was changed that is no scale factor");
+    expect(same_but(&call->books, 0, done ? OARCRADLER_BOOKS : 0), "read_frame: a byte was changed that is no book");
+    expect(same_but(&call->answer, 0, done ? OARCRADLER_FRAME : 0), "read_frame: a byte was changed that is not the answer's");
+    return number;
+}
+
+uint32_t call_unwrap_frame(struct unwrap_call *call, size_t start)
+{
+    remember(&call->file), remember(&call->out), remember(&call->answer);
+    uint32_t number = oarcradler_unwrap_frame(bytes_of(&call->file), call->file.size, start, bytes_of(&call->out), call->out.size,
+        bytes_of(&call->answer), call->answer.size);
+    calls++;
+    expect(is_one_of(number, frame_numbers), "unwrap_frame: a number that it never gives");
+    expect(same(&call->file), "unwrap_frame: the file was changed");
+    if (number == 0) {
+        size_t size = (oarcradler_word(bytes_of(&call->answer) + OARCRADLER_CHANNEL_BITS) + 7) / 8;
+        expect(size <= call->out.size, "unwrap_frame: more bits than the output holds");
+        expect(same_but(&call->out, 0, size), "unwrap_frame: a byte past the stream was changed");
+        expect(same_but(&call->answer, 0, OARCRADLER_FRAME), "unwrap_frame: a byte outside the answer was changed");
+    } else {
+        expect(same(&call->out) && same(&call->answer), "unwrap_frame: a refusal touched a buffer");
+    }
+    return number;
+}
+
+uint32_t call_wrap_stream(struct wrap_call *call, uint32_t start, uint32_t end, uint32_t index)
+{
+    static const uint32_t numbers[] = { 1, 2, 3, 10, 12, 13, 20, 21, 22, 23, 24, 25, 26, 0 };
+    remember(&call->buffer), remember(&call->out), remember(&call->answer);
+    uint32_t number = oarcradler_wrap_stream(bytes_of(&call->buffer), call->buffer.size, start, end, index, bytes_of(&call->out),
+        call->out.size, bytes_of(&call->answer), call->answer.size);
+    calls++;
+    expect(is_one_of(number, numbers), "wrap_stream: a number that it never gives");
+    expect(same(&call->buffer), "wrap_stream: the buffer was changed");
+    if (number == 0) {
+        size_t size = oarcradler_word(bytes_of(&call->answer) + OARCRADLER_WRAPPED_LENGTH);
+        expect(size <= call->out.size, "wrap_stream: more bytes than the output holds");
+        expect(same_but(&call->out, 0, size), "wrap_stream: a byte past the frame was changed");
+        expect(same_but(&call->answer, 0, OARCRADLER_WRAPPED), "wrap_stream: a byte outside the answer was changed");
+    } else {
+        expect(same(&call->out) && same(&call->answer), "wrap_stream: a refusal touched a buffer");
+    }
+    return number;
+}

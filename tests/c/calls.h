@@ -21,6 +21,18 @@ struct image_call {
     struct lent image, answer;
 };
 
+struct frame_call {
+    struct lent file, lines, factors, books, answer;
+};
+
+struct unwrap_call {
+    struct lent file, out, answer;
+};
+
+struct wrap_call {
+    struct lent buffer, out, answer;
+};
+
 /* A fresh state is put in a lent one. */
 uint32_t call_fresh(struct lent *state);
 /* A payload is reported missing. */
@@ -35,5 +47,11 @@ uint32_t call_read_channel(struct channel_call *call, uint32_t start, uint32_t e
 uint32_t call_read_header(struct image_call *call);
 /* The payload k of a lent image is found. */
 uint32_t call_find_part(struct image_call *call, uint32_t k);
+/* The frame that starts at a byte of a lent file is read. */
+uint32_t call_read_frame(struct frame_call *call, size_t start);
+/* The stream of the frame that starts at a byte of a lent file is cut out. */
+uint32_t call_unwrap_frame(struct unwrap_call *call, size_t start);
+/* The stream from start to end of the lent buffer is wrapped. */
+uint32_t call_wrap_stream(struct wrap_call *call, uint32_t start, uint32_t end, uint32_t index);
 
 #endif

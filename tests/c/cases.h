@@ -8,16 +8,20 @@
 /* A fresh state, and sound and unsound bytes of a state. */
 void test_states(void);
 
-/* Stereo payloads, channel streams and images with known numbers. */
+/* Stereo payloads, channel streams, images and ADTS frames with known numbers. */
 void test_known_stereo(void);
 void test_known_channel(void);
 void test_known_image(void);
+void test_known_frame(void);
 
 /* An image: its header, its parts, each payload. */
 void test_image(const uint8_t *image, size_t size);
 
 /* A channel stream: read, and refused in every way. */
 void test_channel_payload(const uint8_t *payload, size_t size, uint32_t index);
+
+/* A channel stream: wrapped as a frame, that frame read and cut again, and refused in every way. */
+void test_wrapped_payload(const uint8_t *payload, size_t size, uint32_t index);
 
 /* A stereo payload: read, refused in every way, written back; the state moves on. */
 void test_stereo_payload(uint8_t *state, const uint8_t *payload, size_t size);

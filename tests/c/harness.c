@@ -6,7 +6,7 @@
 #include "lent.h"
 #include "oarcradler.h"
 
-enum { LEAST_CALLS = 1000000, LEAST_WRITTEN = 10000 };
+enum { LEAST_CALLS = 1000000, LEAST_WRITTEN = 10000, LEAST_WRAPPED = 10000 };
 
 /* The next image; whether there was one. */
 static int next_image(uint8_t *image, size_t room, size_t *size)
@@ -31,10 +31,11 @@ int main(void)
     test_known_stereo();
     test_known_channel();
     test_known_image();
+    test_known_frame();
     while (next_image(image, sizeof image, &size)) {
         image_number++;
         test_image(image, size);
     }
-    printf("%lu calls checked, %lu payloads written back, %lu faults\n", calls, written_back, faults());
-    return faults() != 0 || calls < LEAST_CALLS || written_back < LEAST_WRITTEN;
+    printf("%lu calls checked, %lu payloads written back, %lu wrapped, %lu faults\n", calls, written_back, wrapped, faults());
+    return faults() != 0 || calls < LEAST_CALLS || written_back < LEAST_WRITTEN || wrapped < LEAST_WRAPPED;
 }

@@ -33,10 +33,12 @@ static uint32_t test_part(const uint8_t *image, size_t size, uint32_t k, uint32_
     expect_number(oarcradler_word(bytes_of(&call.answer) + OARCRADLER_PART_START), start, "find_part: where a part starts");
     expect(start <= end && end <= size, "find_part: a part outside the image");
     payload_number = k;
-    if (k % 2 == 0)
+    if (k % 2 == 0) {
         test_channel_payload(image + start, end - start, index);
-    else
+        test_wrapped_payload(image + start, end - start, index);
+    } else {
         test_stereo_payload(state, image + start, end - start);
+    }
     return end;
 }
 

@@ -5,7 +5,7 @@
 
 enum { MOST_SAID = 20 };
 
-unsigned long calls, written_back, image_number, payload_number;
+unsigned long calls, written_back, wrapped, image_number, payload_number;
 static unsigned long fault_count;
 
 uint8_t *bytes_of(struct lent *lent)

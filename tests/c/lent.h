@@ -14,8 +14,8 @@ struct lent {
     uint8_t was[ALL_LENT];
 };
 
-/* The calls that were checked, and the payloads that were written back. */
-extern unsigned long calls, written_back;
+/* The calls that were checked, the stereo payloads that were written back, and the channel streams that were wrapped. */
+extern unsigned long calls, written_back, wrapped;
 
 /* What is being tested, for the words of a failure. */
 extern unsigned long image_number, payload_number;

@@ -7,13 +7,13 @@
 
 #include "oarcradler.h"
 
-enum { STACK = 65536, LIMIT = 16384, MOST_WRITTEN = 1200, ENTRIES = 7, LEAST_CALLS = 100000 };
+enum { STACK = 65536, LIMIT = 16384, MOST_WRITTEN = 1200, ENTRIES = 10, LEAST_CALLS = 100000 };
 
 static const uint64_t paint = 0xa5a5a5a5a5a5a5a5u;
 
 static const char *const names[ENTRIES]
     = { "oarcradler_fresh_state", "oarcradler_report_missing", "oarcradler_read_stereo", "oarcradler_write_stereo", "oarcradler_read_channel",
-          "oarcradler_read_header", "oarcradler_find_part" };
+          "oarcradler_read_header", "oarcradler_find_part", "oarcradler_read_frame", "oarcradler_unwrap_frame", "oarcradler_wrap_stream" };
 static uint64_t stack[STACK / 8];
 static uint8_t *frame;
 static size_t deepest[ENTRIES];
@@ -23,8 +23,10 @@ static ucontext_t outside, inside;
 /* The buffers of the call that is measured, and what it gave. */
 static uint8_t image[70000], state[OARCRADLER_STATE], answer[OARCRADLER_STEREO], out[MOST_WRITTEN], words[OARCRADLER_HEADER];
 static uint8_t factors[OARCRADLER_FACTORS], books[OARCRADLER_BOOKS];
+static uint8_t adts_frame[OARCRADLER_FRAME_MOST], stream[OARCRADLER_STREAM_MOST], length[OARCRADLER_WRAPPED];
 static int16_t lines[OARCRADLER_LINES];
-static size_t size;
+static const uint8_t *file;
+static size_t size, file_size, first;
 static uint32_t start, end, index, number;
 static int entry;
 
@@ -42,7 +44,14 @@ static void call_entry(void)
             sizeof books, answer, sizeof answer);
         break;
     case 5: number = oarcradler_read_header(image, size, words, sizeof words); break;
-    default: number = oarcradler_find_part(image, size, start, words, sizeof words);
+    case 6: number = oarcradler_find_part(image, size, start, words, sizeof words); break;
+    case 7:
+        number = oarcradler_read_frame(file, file_size, first, lines, OARCRADLER_LINES, factors, sizeof factors, books, sizeof books, answer,
+            sizeof answer);
+        break;
+    case 8: number = oarcradler_unwrap_frame(file, file_size, first, stream, sizeof stream, answer, sizeof answer); break;
+    default:
+        number = oarcradler_wrap_stream(image, size, start, end, index, adts_frame, sizeof adts_frame, length, sizeof length);
     }
 }
 
@@ -94,6 +103,23 @@ static void measure_stereo(void)
     memcpy(state, after, sizeof state);
 }
 
+/* A channel stream, read and wrapped; the frame that wraps it, whole and cut by a byte, and the image itself as a file, read and cut. */
+static void measure_channel(void)
+{
+    measure(4);
+    if (measure(9) == 0) {
+        file = adts_frame, first = 0, file_size = oarcradler_word(length + OARCRADLER_WRAPPED_LENGTH);
+        measure(7);
+        measure(8);
+        file_size--;
+        measure(7);
+        measure(8);
+    }
+    file = image, first = start, file_size = size;
+    measure(7);
+    measure(8);
+}
+
 /* Each function over each payload of an image. */
 static void measure_image(void)
 {
@@ -109,7 +135,7 @@ static void measure_image(void)
         start = oarcradler_word(words + OARCRADLER_PART_START);
         end = oarcradler_word(words + OARCRADLER_PART_END);
         if (k % 2 == 0)
-            measure(4);
+            measure_channel();
         else
             measure_stereo();
     }

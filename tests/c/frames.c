@@ -1,0 +1,119 @@
+/* frames: an ADTS file on standard input, read, cut and wrapped again by the functions for C, and printed in full, as the second program's cut
+ * does. */
+#include <stdio.h>
+
+#include "oarcradler.h"
+
+enum { MOST_FILE = 1 << 22 };
+
+static uint8_t file[MOST_FILE];
+
+/* A word and some bytes as numbers. */
+static void print_bytes(const char *word, const uint8_t *bytes, size_t count)
+{
+    printf("%s", word);
+    for (size_t k = 0; k < count; k++)
+        printf(" %u", (unsigned)bytes[k]);
+    printf("\n");
+}
+
+/* A word and some bytes as hexadecimal digits. */
+static void print_hex(const char *word, const uint8_t *bytes, size_t count)
+{
+    printf("%s ", word);
+    for (size_t k = 0; k < count; k++)
+        printf("%02x", (unsigned)bytes[k]);
+    printf("\n");
+}
+
+/* The line of a frame that was read. */
+static void print_line(unsigned k, size_t start, const int16_t *lines, const uint8_t *answer)
+{
+    unsigned set = 0;
+    for (int line = 0; line < OARCRADLER_LINES; line++)
+        set += lines[line] != 0;
+    printf("%u frame at %lu length %u index %u ", k, (unsigned long)start, (unsigned)oarcradler_word(answer + OARCRADLER_FRAME_LENGTH),
+        (unsigned)answer[OARCRADLER_FRAME_INDEX]);
+    printf("channel gain %u lines %u bits %u\n", (unsigned)answer[OARCRADLER_CHANNEL_GAIN], set,
+        (unsigned)oarcradler_word(answer + OARCRADLER_CHANNEL_BITS));
+}
+
+/* All other numbers of a frame that was read. */
+static void print_numbers(const int16_t *lines, const uint8_t *factors, const uint8_t *books, const uint8_t *answer)
+{
+    size_t groups = answer[OARCRADLER_CHANNEL_GROUP_COUNT], used = groups * answer[OARCRADLER_CHANNEL_MAX_SFB];
+    printf("  window %u shape %u max_sfb %u", (unsigned)answer[OARCRADLER_CHANNEL_SEQUENCE], (unsigned)answer[OARCRADLER_CHANNEL_SHAPE],
+        (unsigned)answer[OARCRADLER_CHANNEL_MAX_SFB]);
+    print_bytes(" groups", answer + OARCRADLER_CHANNEL_GROUPS, groups);
+    print_bytes("  books", books, used);
+    print_bytes("  factors", factors, used);
+    printf("  values");
+    for (int line = 0; line < OARCRADLER_LINES; line++)
+        if (lines[line] != 0)
+            printf(" %d:%d", line, lines[line]);
+    printf("\n");
+}
+
+/* The stream of a frame that was read, and the frame that wraps it; the room for either is just what is promised to be enough. */
+static void print_stream(size_t size, size_t start)
+{
+    static uint8_t stream[OARCRADLER_STREAM_MOST], frame[OARCRADLER_FRAME_MOST];
+    uint8_t answer[OARCRADLER_FRAME], wrapped[OARCRADLER_WRAPPED];
+    uint32_t number = oarcradler_unwrap_frame(file, size, start, stream, sizeof stream, answer, sizeof answer);
+    if (number != 0) {
+        printf("  stream refused %u\n", (unsigned)number);
+        return;
+    }
+    uint32_t bytes = (oarcradler_word(answer + OARCRADLER_CHANNEL_BITS) + 7) / 8;
+    print_hex("  stream", stream, bytes);
+    number = oarcradler_wrap_stream(stream, sizeof stream, 0, bytes, answer[OARCRADLER_FRAME_INDEX], frame, sizeof frame, wrapped,
+        sizeof wrapped);
+    if (number != 0)
+        printf("  frame refused %u\n", (unsigned)number);
+    else
+        print_hex("  frame", frame, oarcradler_word(wrapped + OARCRADLER_WRAPPED_LENGTH));
+}
+
+/* The length field of a frame whose header was accepted: 13 bits from bit 30. */
+static uint32_t length_field(const uint8_t *frame)
+{
+    return (uint32_t)(frame[3] & 3) << 11 | (uint32_t)frame[4] << 3 | (uint32_t)frame[5] >> 5;
+}
+
+/* A frame, read or refused. Its length, or 0 where no next frame is known. */
+static uint32_t print_frame(unsigned k, size_t size, size_t start)
+{
+    static int16_t lines[OARCRADLER_LINES];
+    static uint8_t factors[OARCRADLER_FACTORS], books[OARCRADLER_BOOKS], answer[OARCRADLER_FRAME];
+    uint32_t number = oarcradler_read_frame(file, size, start, lines, OARCRADLER_LINES, factors, sizeof factors, books, sizeof books, answer,
+        sizeof answer);
+    if (number == 0) {
+        print_line(k, start, lines, answer);
+        print_numbers(lines, factors, books, answer);
+        print_stream(size, start);
+        return oarcradler_word(answer + OARCRADLER_FRAME_LENGTH);
+    }
+    printf("%u frame at %lu refused %u\n", k, (unsigned long)start, (unsigned)number);
+    switch (number) {
+    case OARCRADLER_NO_BITS:
+    case OARCRADLER_NO_SYNC:
+    case OARCRADLER_OTHER_FRAME:
+    case OARCRADLER_FRAME_SIZE: return 0;
+    default: return length_field(file + start);
+    }
+}
+
+/* A file, frame by frame. */
+int main(void)
+{
+    size_t size = fread(file, 1, sizeof file, stdin), start = 0;
+    if (ferror(stdin) || size == sizeof file)
+        return 2;
+    for (unsigned k = 0; start < size; k++) {
+        uint32_t length = print_frame(k, size, start);
+        if (length == 0)
+            return 0;
+        start += length;
+    }
+    return 0;
+}
