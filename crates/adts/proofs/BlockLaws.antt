@@ -74,10 +74,10 @@ module _ (index : ℕ) (s : List ℕ) (end : ℕ) where
       go false e = never e
 
   -- an element that is accepted holds a stream from bit 63 on
-  held : (x : Block) (last : ℕ) → singleChannel index s 56 end ≡ got x last
+  pub element-held : (x : Block) (last : ℕ) → singleChannel index s 56 end ≡ got x last
       → (63 ≤ end) × (last ≡ 63 + x .bits) × (stream index s 63 end ≡ got (x .stream) last)
   unfolding singleChannel here element
-  held x last e =
+  element-held x last e =
       let id = split (element 0 s 56 end) _ s end last x e in
       let tag = split (field 4 s (id .1) end) _ s end last x (id .3) in
       let a = tag-at (id .2) (tag .2) in
@@ -98,7 +98,7 @@ module _ (index : ℕ) (s : List ℕ) (end : ℕ) where
       let element-there = split (singleChannel index s 56 end) _ s end next x e in
       let end-there = split (element 7 s (element-there .1) end) _ s end next x (element-there .3) in
       let same = closed (element-there .0) x (end-there .1) next (end-there .3) in
-      let h = held x (element-there .1) (element-there .2 ∙ ap (λ (y : Block). got y (element-there .1)) same) in
+      let h = element-held x (element-there .1) (element-there .2 ∙ ap (λ (y : Block). got y (element-there .1)) same) in
       (h .0, h .2 ∙ ap (got (x .stream)) (h .1))
 
   pub stream-held : (y : Answer Block) → rawBlock index s 56 end ≡ y → (x : Stream) (bits : ℕ) → streamIn y ≡ got x bits

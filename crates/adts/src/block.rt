@@ -3,6 +3,7 @@ ghost use mathlib.Core.Path.{_≡_};
 ghost use Prim.Native.Nat.{_*_, _≤_};
 ghost use lib.IntN.{pos};
 ghost use lib.ListN.{length, replicate};
+ghost use Rattle.bits.specs.Field.{field};
 ghost use Rattle.bits.specs.InnerAnswers.{fieldAnswer};
 ghost use Rattle.channel.specs.InnerAnswers.{HoldsStream};
 ghost use Rattle.adts.specs.Block.{element, singleChannel, rawBlock};
@@ -31,6 +32,14 @@ fn read_element(s: &[u8], at: usize, end: usize, id: u32) -> Field
     f
 }
 
+// The tag of an element, which is free.
+fn read_tag(s: &[u8], at: usize, end: usize) -> Field
+    requires { ⌜ end ≤ 8 * length (now s) ⌝ }
+    ensures { λ r. ⌜ fieldAnswer r ≡ field 4 (now (s .entry)) at end ⌝ }
+{
+    read_field(s, at, end, 4)
+}
+
 // The single channel element after a header, into arrays of zeros; the answer is where its stream ends.
 fn read_channel_element(
     s: &[u8],
@@ -51,7 +60,7 @@ fn read_channel_element(
     let Field::Got(_, after_id) = id else {
         return refused_head(passed_on(id));
     };
-    let tag = read_field(s, after_id, end, 4);
+    let tag = read_tag(s, after_id, end);
     let Field::Got(_, first) = tag else {
         return refused_head(passed_on(tag));
     };

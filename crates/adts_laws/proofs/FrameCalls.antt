@@ -120,7 +120,7 @@ module _ (buf : List ℕ) (start end index : ℕ) (out : List ℕ) (x : Stream) 
       ∙ wrapped-cut index (range buf start end) bits x (held .1) small
 
 -- a header that is accepted at a byte of a file is that of the frame there
-header-there : (file : List ℕ) (start : ℕ) (room : Bool) (h : Header) (next : ℕ) → headerAt file start room ≡ got h next
+pub header-there : (file : List ℕ) (start : ℕ) (room : Bool) (h : Header) (next : ℕ) → headerAt file start room ≡ got h next
     → (start ≤ length file) × (room ≡ true) × (frameHeader (drop start file) ≡ got h next)
 unfolding headerAt
 header-there file start room h next e = go (leb start (length file)) refl room refl e

@@ -52,7 +52,7 @@ block-local index b c end h q =
     after-local (element 7) (λ id. ended x) b c m end (element-lawful 7 .local b c m end (w .1) (λ i l r. q i (omega arith) r)) (λ v k f. refl)
 
 -- a header that is accepted: its length is judged, and it is the one that its bits say
-accepted : (there : ℕ) (x : Answer Header) (h : Header) (next : ℕ) → lengthJudged there x ≡ got h next
+pub accepted : (there : ℕ) (x : Answer Header) (h : Header) (next : ℕ) → lengthJudged there x ≡ got h next
     → (m : ℕ) × (x ≡ got h m) × (7 ≤ h .length) × (h .length ≤ there)
 unfolding fitting
 accepted there (refused n p) h next e = never e

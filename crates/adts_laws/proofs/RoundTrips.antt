@@ -70,7 +70,7 @@ unfolding element
 element-there id s at end h e = rw (← is-field 3 s at end h (sym e), eq-eqb id id refl)
 
 -- the block of a frame whose parts are read one after another
-block-there : (index : ℕ) (s : List ℕ) (end n : ℕ) (x : Stream) → element 0 s 56 end ≡ got 0 59 → field 4 s 59 end ≡ got 0 63
+pub block-there : (index : ℕ) (s : List ℕ) (end n : ℕ) (x : Stream) {t : ℕ} → element 0 s 56 end ≡ got 0 59 → field 4 s 59 end ≡ got t 63
     → stream index s 63 end ≡ got x (63 + n) → element 7 s (63 + n) end ≡ got 7 (63 + n + 3) → end - (63 + n + 3) ≤ 7
     → streamIn (rawBlock index s 56 end) ≡ got x n
 unfolding rawBlock singleChannel here ended

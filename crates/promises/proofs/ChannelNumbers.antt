@@ -203,7 +203,7 @@ head-own : (index : ℕ) → Numbered own (headOf index)
 unfolding headOf
 head-own index = search (owns, window-own) depth 12
 
-stream-own : (index : ℕ) → Numbered own (stream index)
+pub stream-own : (index : ℕ) → Numbered own (stream index)
 unfolding stream streamAfter streamWith
 stream-own index = search (owns, head-own, sections-own, factors-own, coded-own) depth 12
 

@@ -36,6 +36,14 @@ use Rattle.promises.proofs.Turns.{steady}
 use Rattle.promises.proofs.Acceptance.{stream-allowed, stream-exactly, payload-allowed, payload-exactly}
 use Rattle.promises.proofs.RoundTrips.{written-back, read-back, forty-exactly}
 use Rattle.promises.proofs.CallRuns.{by-value, over-lent, from-fresh-bytes}
+-- demand 1, of a frame of an ADTS file: files that hold the same frame give the same answers, and the same bits are cut out of them; which
+-- numbers come back, and what a refusal leaves, stands in `FrameNumbers`
+pub use Rattle.adts_laws.proofs.FrameCalls.{outside-header, outside-stream, outside-cut}
+-- demand 2, of a frame: it is accepted exactly where the rules allow it
+pub use Rattle.promises.proofs.FrameAcceptance.{frame-allowed, frame-exactly}
+-- a stream that is wrapped is read to its numbers and unwrapped to its bits; what is unwrapped is a payload with the frame's numbers, and
+-- wrapped again it reads the same
+pub use Rattle.promises.proofs.FrameTrips.{wrap-read, wrap-unwrap, unwrap-agrees, unwrap-read, again-wraps, again-reads}
 
 -- demand 1, of a channel stream: no bit outside the range counts, and no cut goes unseen
 pub channel-outside : (buf other : List ℕ) (start end start′ end′ index lines factors books : ℕ)

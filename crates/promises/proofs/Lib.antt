@@ -1,6 +1,10 @@
 pub mod Turns
 pub mod Acceptance
 pub mod RoundTrips
+pub mod FrameNumbers
+pub mod FrameTrips
+pub mod FrameAcceptance
+pub mod UniqueFrames
 pub mod Demands
 pub mod Unique
 pub mod UniqueCalls

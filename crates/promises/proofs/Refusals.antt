@@ -47,7 +47,7 @@ use Rattle.promises.specs.Refusals.{streamRefusals, isRefusal, isAnswere
 use Rattle.promises.proofs.ChannelNumbers.{stream-numbers}
 
 -- a stream's own numbers are of the table
-stream-told : (n : ℕ) → oneOf streamRefusals n ≡ true → isRefusal n ≡ true
+pub stream-told : (n : ℕ) → oneOf streamRefusals n ≡ true → isRefusal n ≡ true
 stream-told =
     one-of isRefusal streamRefusals
     (refl, (refl, (refl, (refl, (refl, (refl, (refl, (refl, (refl, (refl, tt))))))))))
@@ -80,7 +80,7 @@ picked number false x y p q = q
 abbrev self : ℕ → ℕ
 self n = n
 
-refused-answered : (n : ℕ) → isRefusal n ≡ true → isAnswered n ≡ true
+pub refused-answered : (n : ℕ) → isRefusal n ≡ true → isAnswered n ≡ true
 refused-answered n e = by-zero (eqb n 0)
   where
     by-zero : (b : Bool) → (b || isRefusal n) ≡ true

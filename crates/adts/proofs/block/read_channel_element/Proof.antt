@@ -22,7 +22,7 @@ returns-2 c =
     let x = id .before .before .before .before .args in
     let e = answered (id .before .before .read-element .ensures) (id .id .given .1) in
     rw (c .refused-head2 .ensures .0 ∙ c .before .passed-on2 .ensures ∙ ap passedOn told)
-    (no-tag (x .index) (x .s .now) (x .end) e (answered (tag .read-field .ensures) told))
+    (no-tag (x .index) (x .s .now) (x .end) e (answered (tag .read-tag .ensures) told))
 
 returns-3 : tie.Need-returns-3
 returns-3 c =
@@ -31,7 +31,7 @@ returns-3 c =
     let id = at-tag .before .before in
     let x = id .before .before .before .before .args in
     let e = answered (id .before .before .read-element .ensures) (id .id .given .1) in
-    let f = answered (at-tag .read-field .ensures) (tag .tag .given .1) in
+    let f = answered (at-tag .read-tag .ensures) (tag .tag .given .1) in
     after-tag (x .index) (x .s .now) (x .end) e f (c .read-from .result .ended) _ _ _ _ (c .read-from .ensures)
 
 pub read-channel-element-spec : {M : Type 1} → statement M
