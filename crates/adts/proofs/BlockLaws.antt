@@ -7,7 +7,7 @@ use mathlib.Core.List.{List}
 use lib.Dec.{eqb, leb}
 use lib.IntN.{ℤ}
 use native.Mathlib.Omega.{arith}
-use Rattle.bits.specs.Reader.{Answer, got, refused, pick, _>>=_}
+use Rattle.bits.specs.Reader.{Answer, got, refused, pick}
 use Rattle.bits.specs.Field.{field}
 use Rattle.bits.specs.Places.{here}
 use Rattle.bits.specs.Payload.{ended}
@@ -122,7 +122,7 @@ pub head-held : (r : Ended) (h : Head) (books factors : List ℕ) (lines : List 
 head-held (At bits) h books factors lines x o = (record { head = h; books = books; factors = factors; coded = o .0 }, refl, o .2)
 head-held (Refused n place) h books factors lines x o = o
 
-pub stream-used : (r : Ended) (h : Head) (books factors : List ℕ) (lines : List ℤ) (x : Answer Stream) → HoldsStream r h books factors lines x
-    → Used r x
+pub stream-used : (r : Ended) (h : Head) (books factors : List ℕ) (lines : List ℤ) (x : Answer Stream)
+    → HoldsStream r h books factors lines x → Used r x
 stream-used (At bits) h books factors lines x o = (record { head = h; books = books; factors = factors; coded = o .0 }, o .2)
 stream-used (Refused n place) h books factors lines x o = o

@@ -1,7 +1,7 @@
 -- Bits that are put one by one: what stands in the bytes afterwards, and that the bits alone settle what is cut out.
 -- Assumes nothing.
-use Prim.Native.Nat.{ℕ, zero, suc, _+_, _*_, _/_, _<_, _≤_}
-use mathlib.Core.Path.{_≡_, refl, sym, _∙_, ap}
+use Prim.Native.Nat.{ℕ, zero, suc, _+_, _*_, _≤_}
+use mathlib.Core.Path.{_≡_, refl, sym, _∙_}
 use mathlib.Core.List.{List, [], _∷_, _++_}
 use native.Mathlib.Omega.{arith}
 use native.Mathlib.Numerals.{add-one}
@@ -13,7 +13,7 @@ use Rattle.bits.specs.Packed.{put, putAll, bytesFor, packed}
 use Rattle.bits.proofs.OverLaws.{over-front}
 use Rattle.bits.proofs.Spelt.{total-append}
 use Rattle.bits.proofs.PutLaws.{put-all-length, put-all-append, put-all-more}
-use Rattle.adts.specs.Cut.{eachBit, cutOut}
+use Rattle.adts.specs.Cut.{eachBit}
 
 -- n bits take n bits
 pub each-total : (s : List ℕ) (at n : ℕ) → total (eachBit s at n) ≡ n
@@ -38,4 +38,5 @@ unfolding packed
 packed-over ps old n e h =
     let zeros = length-replicate {A = ℕ} n 0 in
     let long = put-all-length (replicate n 0) 0 ps in
-    rw (← e) (put-all-append (replicate n 0) (drop n old) 0 ps (omega arith) ∙ sym (over-front old (putAll (replicate n 0) 0 ps) n (long ∙ zeros)))
+    let front = over-front old (putAll (replicate n 0) 0 ps) n (long ∙ zeros) in
+    rw (← e) (put-all-append (replicate n 0) (drop n old) 0 ps (omega arith) ∙ sym front)

@@ -2,21 +2,21 @@
 -- Assumes nothing.
 use Prim.Native.Nat.{ℕ, _*_, _<_, _≤_}
 use mathlib.Core.Path.{_≡_, refl, sym, _∙_, ap}
-use mathlib.Core.Bool.{Bool, true, false, _&&_}
+use mathlib.Core.Bool.{Bool, true, false}
 use mathlib.Core.List.{List}
 use native.Mathlib.Omega.{arith}
-use lib.Dec.{eqb, leb}
+use lib.Dec.{eqb}
 use lib.ListN.{length}
 use borrow.Author.Tests.{eq-eqb, ne-eqb, le-leb, lt-leb}
 use Rattle.bits.specs.Bits.{bitsFrom}
-use Rattle.bits.specs.Reader.{Answer, got, refused, pick}
+use Rattle.bits.specs.Reader.{got, refused, pick}
 use Rattle.bits.specs.Field.{field}
 use Rattle.bits.specs.Places.{placed, oneField}
 use Rattle.bits.specs.Inside.{renumbered, inside}
 use Rattle.bits.specs.Sampling.{knownIndex}
-use Rattle.adts.specs.Header.{Header, syncword, only, samplingIndex, fixedHalf, variableHalf, header}
+use Rattle.adts.specs.Header.{syncword, only, samplingIndex, fixedHalf, variableHalf, header}
 use Rattle.adts.specs.Frame.{wholeHeader, fitting, lengthJudged, frameHeader}
-use Rattle.adts.specs.InnerHeader.{indexIn, lengthIn, lateRefusal, earlyRefusal, headerRefusal}
+use Rattle.adts.specs.InnerHeader.{indexIn, kept, headerRefusal}
 
 -- a number that was read, and a test of it
 pub passes : {r v k : ℕ} → r ≡ v → r ≡ k → eqb v k ≡ true
@@ -25,12 +25,9 @@ passes e f = eq-eqb _ _ (sym e ∙ f)
 pub fails : {r v k : ℕ} → r ≡ v → (r ≡ k → ⊥) → eqb v k ≡ false
 fails e f = ne-eqb _ _ (λ g. f (e ∙ g))
 
--- what a header keeps
-abbrev pub kept : List ℕ → Header
-kept s = record { index = indexIn s; length = lengthIn s }
-
 -- the reader of a whole header, by the tests of its fields
-header-is : (s : List ℕ) → placed (renumbered 10 (header s 0 56)) 0 ≡ pick (eqb (headerRefusal s) 0) (got (kept s) 56) (refused (headerRefusal s) 0)
+header-is : (s : List ℕ)
+    → placed (renumbered 10 (header s 0 56)) 0 ≡ pick (eqb (headerRefusal s) 0) (got (kept s) 56) (refused (headerRefusal s) 0)
 unfolding headerRefusal header fixedHalf variableHalf syncword only samplingIndex field
 header-is s =
     go (eqb (bitsFrom s 0 12) 4095) (eqb (bitsFrom s 13 2) 0) (eqb (bitsFrom s 15 1) 1) (eqb (bitsFrom s 16 2) 1) (knownIndex (indexIn s))

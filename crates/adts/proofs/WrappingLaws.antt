@@ -1,15 +1,14 @@
 -- The frame that wraps a stream: how long its spelling is, and that its parts put one after another are the whole.
 -- Assumes nothing.
 use Prim.Native.Nat.{ℕ, _+_}
-use mathlib.Core.Path.{_≡_, refl, sym, _∙_, ap}
+use mathlib.Core.Path.{_≡_, refl}
 use mathlib.Core.List.{List, [], _∷_, _++_}
 use native.Mathlib.Omega.{arith}
-use Rattle.bits.specs.Pieces.{Piece, piece, total}
+use Rattle.bits.specs.Pieces.{piece, total}
 use Rattle.bits.specs.Packed.{putAll}
-use Rattle.bits.proofs.PutLaws.{put-all-more}
 use Rattle.bits.proofs.Spelt.{total-append}
 use Rattle.adts.specs.Cut.{eachBit}
-use Rattle.adts.specs.Wrapping.{spellKind, spellVoice, spellVariableHalf, spellBlock, frameLength, wrapping}
+use Rattle.adts.specs.Wrapping.{spellKind, spellVoice, spellVariableHalf, spellBlock}
 use Rattle.adts.proofs.CutLaws.{each-total}
 
 block-total : (bytes : List ℕ) (n : ℕ) → total (spellBlock bytes n) ≡ 3 + 4 + n + 3

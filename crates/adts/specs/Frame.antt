@@ -4,7 +4,7 @@ use mathlib.Core.List.{List}
 use mathlib.Core.Bool.{_&&_}
 use lib.Dec.{leb}
 use lib.ListN.{length}
-use Rattle.bits.specs.Reader.{Answer, got, refused, Reader, pick, _>>=_}
+use Rattle.bits.specs.Reader.{Answer, got, refused, Reader, pick}
 use Rattle.bits.specs.Places.{oneField}
 use Rattle.bits.specs.Inside.{inside}
 use Rattle.channel.specs.Stream.{Stream}

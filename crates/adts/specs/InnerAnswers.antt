@@ -13,6 +13,7 @@ use Rattle.channel.specs.Stream.{Coded, Stream}
 use Rattle.channel.specs.declared.stream.Head.{Head}
 use Rattle.adts.specs.Header.{Header}
 use Rattle.adts.specs.Block.{Block, element}
+use Rattle.adts.specs.Frame.{frameHeader, frameStream}
 use Rattle.adts.specs.declared.header.Header.{Header as Judged}
 
 -- a header that was judged
@@ -39,3 +40,7 @@ HoldsElement (Refused n place) head books factors lines x = x ≡ refused n plac
 abbrev pub HoldsHead : Ended → Head → Answer Stream → Type 0
 HoldsHead (At bits) head x = (a : Stream) × (a .head ≡ head) × (x ≡ got a bits)
 HoldsHead (Refused n place) head x = x ≡ refused n place
+
+-- the stream of the frame at the front of some bytes
+abbrev pub firstStream : List ℕ → Answer Stream
+firstStream bytes = frameStream bytes (frameHeader bytes)

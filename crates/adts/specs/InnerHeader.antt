@@ -5,6 +5,7 @@ use lib.Dec.{eqb}
 use Rattle.bits.specs.Bits.{bitsFrom}
 use Rattle.bits.specs.Reader.{pick}
 use Rattle.bits.specs.Sampling.{knownIndex}
+use Rattle.adts.specs.Header.{Header}
 
 -- the sampling index
 abbrev pub indexIn : List ℕ → ℕ
@@ -13,6 +14,10 @@ indexIn s = bitsFrom s 18 4
 -- the frame's length in bytes
 abbrev pub lengthIn : List ℕ → ℕ
 lengthIn s = bitsFrom s 30 13
+
+-- what is kept of a header
+abbrev pub kept : List ℕ → Header
+kept s = record { index = indexIn s; length = lengthIn s }
 
 -- what is judged after the sampling index: one channel, one raw block
 abbrev pub lateRefusal : List ℕ → ℕ

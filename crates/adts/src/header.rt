@@ -3,7 +3,7 @@ ghost use mathlib.Core.Path.{_≡_};
 ghost use Prim.Native.Nat.{_<_, _≤_};
 ghost use lib.ListN.{length};
 ghost use Rattle.adts.specs.Frame.{fitting, frameHeader};
-ghost use Rattle.adts.specs.InnerHeader.{indexIn, lengthIn, headerRefusal};
+ghost use Rattle.adts.specs.InnerHeader.{indexIn, kept, headerRefusal};
 ghost use Rattle.adts.specs.InnerAnswers.{headerAnswer};
 use bits::bits_at;
 use bits::calls::is_known_index;
@@ -63,7 +63,7 @@ fn header_refusal(s: &[u8]) -> u8
 
 // The frame's length in bytes, of a whole header: 7 at least, and no more than there are, or 52.
 fn judge_length(s: &[u8]) -> Header
-    ensures { λ r. ⌜ headerAnswer r ≡ fitting (length (now (s .entry))) (record { index = indexIn (now (s .entry)); length = lengthIn (now (s .entry)) }) ⌝ }
+    ensures { λ r. ⌜ headerAnswer r ≡ fitting (length (now (s .entry))) (kept (now (s .entry))) ⌝ }
     ensures { λ r. ⌜ (r .length ≤ length (now (s .entry))) × (r .length < 8192) ⌝ }
 {
     let length = bits_at(s, 30, 13) as usize;

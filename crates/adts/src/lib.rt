@@ -9,11 +9,11 @@ ghost use Rattle.bits.specs.Payload.{whole};
 ghost use Rattle.channel.specs.Stream.{stream};
 ghost use Rattle.channel.specs.Promise.{readingOf, linesAfter, factorsAfter, booksAfter};
 ghost use Rattle.channel.specs.Promise.{refusal};
-ghost use Rattle.adts.specs.Frame.{frameHeader, frameStream};
+ghost use Rattle.adts.specs.Frame.{frameHeader};
 ghost use Rattle.adts.specs.Wrapping.{frameLength};
 ghost use Rattle.adts.specs.Promise.{framed, outputsFit, fitted, unwrapped, wrappedOf, wrappedBytes};
 ghost use Rattle.adts.specs.Promise.{ReadFramePromise, UnwrapPromise, WrapPromise};
-ghost use Rattle.adts.specs.InnerAnswers.{headerAnswer, Used};
+ghost use Rattle.adts.specs.InnerAnswers.{Used, firstStream};
 use crate::block::read_block;
 use crate::block::read_lone_block;
 use crate::cut::cut_out;
@@ -81,10 +81,10 @@ fn with_header(header: Header, reading: Reading) -> Framed
 fn read_first(s: &[u8], lines: &mut [i16], factors: &mut [u8], books: &mut [u8]) -> Framed
     requires { ⌜ (1024 ≤ length (now lines)) × (120 ≤ length (now factors)) × (120 ≤ length (now books)) ⌝ }
     ensures { λ r. ⌜ r ≡ framed (frameHeader (now (s .entry)))
-        (readingOf (frameStream (now (s .entry)) (frameHeader (now (s .entry))))) ⌝ }
-    ensures { λ r. ⌜ now (lines .exit) ≡ linesAfter (frameStream (now (s .entry)) (frameHeader (now (s .entry)))) (now (lines .entry)) ⌝ }
-    ensures { λ r. ⌜ now (factors .exit) ≡ factorsAfter (frameStream (now (s .entry)) (frameHeader (now (s .entry)))) (now (factors .entry)) ⌝ }
-    ensures { λ r. ⌜ now (books .exit) ≡ booksAfter (frameStream (now (s .entry)) (frameHeader (now (s .entry)))) (now (books .entry)) ⌝ }
+        (readingOf (firstStream (now (s .entry)))) ⌝ }
+    ensures { λ r. ⌜ now (lines .exit) ≡ linesAfter (firstStream (now (s .entry))) (now (lines .entry)) ⌝ }
+    ensures { λ r. ⌜ now (factors .exit) ≡ factorsAfter (firstStream (now (s .entry))) (now (factors .entry)) ⌝ }
+    ensures { λ r. ⌜ now (books .exit) ≡ booksAfter (firstStream (now (s .entry))) (now (books .entry)) ⌝ }
 {
     let header = read_header(s);
     if header.number != 0 {
@@ -138,9 +138,9 @@ pub fn read_frame(
 // fit.
 fn unwrap_first(s: &[u8], out: &mut [u8]) -> Framed
     ensures { λ r. ⌜ r ≡ framed (frameHeader (now (s .entry)))
-        (readingOf (fitted bytesFor (length (now (out .entry))) (frameStream (now (s .entry)) (frameHeader (now (s .entry)))))) ⌝ }
+        (readingOf (fitted bytesFor (length (now (out .entry))) (firstStream (now (s .entry))))) ⌝ }
     ensures { λ r. ⌜ now (out .exit) ≡ unwrapped (now (s .entry))
-        (fitted bytesFor (length (now (out .entry))) (frameStream (now (s .entry)) (frameHeader (now (s .entry))))) (now (out .entry)) ⌝ }
+        (fitted bytesFor (length (now (out .entry))) (firstStream (now (s .entry)))) (now (out .entry)) ⌝ }
 {
     let header = read_header(s);
     if header.number != 0 {

@@ -1,6 +1,6 @@
 -- Bits that are cut out stand at the front of their bytes, with zeros after them; so they are settled by these bits alone.
 -- Assumes nothing.
-use Prim.Native.Nat.{ℕ, zero, suc, _+_, _*_, _-_, _<_, _≤_, _^_}
+use Prim.Native.Nat.{ℕ, zero, suc, _+_, _*_, _-_, _≤_}
 use mathlib.Core.Path.{_≡_, refl, sym, _∙_, ap}
 use mathlib.Core.List.{List, [], _∷_, _++_}
 use native.Mathlib.Omega.{arith}
@@ -69,7 +69,8 @@ cut-same s t at place n q = ap packed (each-same s t at place n q)
 -- bytes whose bits past the n-th are 0, and which are no more than n bits take, are cut out whole
 pub cut-whole : (s : List ℕ) (n : ℕ) → AreBytes s → length s ≡ bytesFor n → ((i : ℕ) → n ≤ i → bitAt s i ≡ 0) → cutOut s 0 n ≡ s
 unfolding cutOut
-cut-whole s n b l z = bytes-ext (packed (eachBit s 0 n)) s (packed-bytes (eachBit s 0 n)) b (cut-length s 0 n ∙ sym l) λ i. elim (decLt i n) [
-  | yes d ↦ sym (rw (zero-add i) at (cut-alike s 0 n i d))
-  | no d ↦ packed-pad (eachBit s 0 n) i (omega (arith, each-total s 0 n)) ∙ sym (z i (omega arith))
-]
+cut-whole s n b l z =
+    bytes-ext (packed (eachBit s 0 n)) s (packed-bytes (eachBit s 0 n)) b (cut-length s 0 n ∙ sym l) λ i. elim (decLt i n) [
+      | yes d ↦ sym (rw (zero-add i) at (cut-alike s 0 n i d))
+      | no d ↦ packed-pad (eachBit s 0 n) i (omega (arith, each-total s 0 n)) ∙ sym (z i (omega arith))
+    ]

@@ -3,27 +3,24 @@
 -- Assumes nothing.
 use Prim.Native.Nat.{ℕ, _+_, _*_, _-_, _<_, _≤_}
 use mathlib.Core.Path.{_≡_, refl, sym, _∙_, ap}
-use mathlib.Core.Bool.{Bool, true, false, _&&_, _||_}
-use mathlib.Core.List.{List, _++_}
+use mathlib.Core.Bool.{Bool, true, false}
+use mathlib.Core.List.{List}
 use native.Mathlib.Omega.{arith}
 use lib.Dec.{eqb, leb}
-use lib.IntN.{ℤ}
-use lib.ListN.{length, take, drop, length-append, length-drop}
+use lib.ListN.{length, take, drop}
 use lib.Seq.{take-append-seam, take-all}
-use borrow.Author.Tests.{le-leb, leb-true, eqb-true}
+use borrow.Author.Tests.{le-leb, leb-true}
 use Rattle.bits.specs.Reader.{Answer, got, refused, pick}
 use Rattle.bits.specs.Bytes.{over}
 use Rattle.bits.specs.Packed.{bytesFor}
 use Rattle.bits.specs.Payload.{inBuffer, range, whole}
 use Rattle.bits.specs.Sampling.{knownIndex}
-use Rattle.bits.proofs.Bools.{true-false}
 use Rattle.bits.proofs.Lawful.{never}
 use Rattle.bits.proofs.OverLaws.{over-front, over-length}
 use Rattle.bits.proofs.SamplingLaws.{known-small}
 use Rattle.channel.specs.Stream.{Stream, stream}
-use Rattle.channel.specs.Promise.{channelCallRefusal, channel, readingOf, linesAfter, factorsAfter, booksAfter}
+use Rattle.channel.specs.Promise.{channelCallRefusal, channel}
 use Rattle.adts.specs.Header.{Header}
-use Rattle.adts.specs.Block.{rawBlock}
 use Rattle.adts.specs.Frame.{frameHeader, streamIn}
 use Rattle.adts.specs.Cut.{cutOut}
 use Rattle.adts.specs.Wrapping.{frameLength, wrapping}

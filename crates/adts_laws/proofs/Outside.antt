@@ -1,6 +1,6 @@
 -- No byte outside a frame counts: its header is read from its first 7 bytes, and its block ends where it ends.
 -- Assumes nothing.
-use Prim.Native.Nat.{ℕ, _*_, _<_, _≤_}
+use Prim.Native.Nat.{ℕ, _*_, _≤_}
 use mathlib.Core.Path.{_≡_, refl, sym, _∙_, ap}
 use mathlib.Core.Bool.{Bool, true, false, _&&_}
 use mathlib.Core.List.{List}
@@ -11,7 +11,7 @@ use native.Mathlib.Decide.{decLe}
 use lib.Seq.{take-all, length-take-le}
 use borrow.Author.Tests.{le-leb, leb-true}
 use Rattle.bits.specs.Bits.{bitAt}
-use Rattle.bits.specs.Reader.{Answer, got, refused, pick, after, _>>=_}
+use Rattle.bits.specs.Reader.{Answer, got, refused, pick}
 use Rattle.bits.specs.Places.{placed, oneField}
 use Rattle.bits.specs.Inside.{renumbered, inside}
 use Rattle.bits.specs.Field.{field}
@@ -25,7 +25,7 @@ use Rattle.bits.proofs.PlacesLaws.{here-lawful}
 use Rattle.bits.proofs.PayloadLaws.{bit-take}
 use Rattle.channel.proofs.StreamLawful.{stream-lawful}
 use Rattle.adts.specs.Header.{Header, syncword, only, samplingIndex, fixedHalf, variableHalf, header}
-use Rattle.adts.specs.Block.{Block, element, singleChannel, rawBlock}
+use Rattle.adts.specs.Block.{element, singleChannel, rawBlock}
 use Rattle.adts.specs.Frame.{wholeHeader, fitting, lengthJudged, frameHeader}
 
 ruleset laws = (bind-lawful, give-lawful, expecting-lawful, field-lawful, here-lawful)
@@ -49,7 +49,8 @@ block-local index b c end h q =
     let g = channel-lawful index in
     after-local (singleChannel index) _ b c 56 end (g .local b c 56 end h q) λ x m e.
     let w = g .within b 56 end m x h e in
-    after-local (element 7) (λ id. ended x) b c m end (element-lawful 7 .local b c m end (w .1) (λ i l r. q i (omega arith) r)) (λ v k f. refl)
+    let id = element-lawful 7 .local b c m end (w .1) (λ i l r. q i (omega arith) r) in
+    after-local (element 7) (λ v. ended x) b c m end id (λ v k f. refl)
 
 -- a header that is accepted: its length is judged, and it is the one that its bits say
 pub accepted : (there : ℕ) (x : Answer Header) (h : Header) (next : ℕ) → lengthJudged there x ≡ got h next

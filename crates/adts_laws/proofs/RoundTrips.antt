@@ -2,17 +2,14 @@
 -- Assumes nothing.
 use Prim.Native.Nat.{ℕ, _+_, _*_, _-_, _<_, _≤_}
 use mathlib.Core.Path.{_≡_, refl, sym, _∙_, ap}
-use mathlib.Core.Bool.{true}
 use mathlib.Core.List.{List, [], _∷_}
 use native.Mathlib.Omega.{arith}
-use lib.Dec.{eqb, leb}
 use lib.ListN.{length}
 use borrow.Author.Tests.{le-leb, eq-eqb}
 use Rattle.bits.specs.Bits.{bitsFrom}
-use Rattle.bits.specs.Reader.{Answer, got}
+use Rattle.bits.specs.Reader.{got}
 use Rattle.bits.specs.Field.{field}
 use Rattle.bits.specs.Pieces.{piece}
-use Rattle.bits.specs.Packed.{bytesFor}
 use Rattle.bits.specs.Payload.{ended, whole}
 use Rattle.bits.specs.Places.{here}
 use Rattle.bits.proofs.Back.{holds-first, holds-rest}
@@ -22,14 +19,14 @@ use Rattle.bits.proofs.PayloadLaws.{whole-got, whole-is}
 use Rattle.channel.specs.Stream.{Stream, stream}
 use Rattle.channel.proofs.StreamMoves.{stream-moves}
 use Rattle.channel.proofs.StreamMost.{stream-most}
-use Rattle.adts.specs.Block.{Block, element, singleChannel, rawBlock}
-use Rattle.adts.specs.Frame.{streamIn, blockAfter}
+use Rattle.adts.specs.Block.{element, singleChannel, rawBlock}
+use Rattle.adts.specs.Frame.{streamIn}
 use Rattle.adts.specs.Cut.{eachBit, cutOut}
 use Rattle.adts.specs.Wrapping.{spellBlock, frameLength, wrapping}
 use Rattle.adts.proofs.BlockLaws.{stream-held}
 use Rattle.adts.proofs.CutLaws.{each-total}
 use Rattle.adts_laws.proofs.CutBits.{holds-alike, cut-alike, cut-length, cut-same}
-use Rattle.adts_laws.proofs.WrappedBits.{frame-length, block-holds}
+use Rattle.adts_laws.proofs.WrappedBits.{block-holds}
 
 -- two streams with the same numbers: head, books, scale factors and lines
 pub record SameNumbers (x y : Stream) : Type 0 where
@@ -93,7 +90,9 @@ module _ (index : ℕ) (bytes : List ℕ) (n : ℕ) (x : Stream) (e : whole (str
         holds-alike bytes (wrapping index bytes n) 0 63 n (holds-first (wrapping index bytes n) 63 (eachBit bytes 0 n) (piece 7 3 ∷ []) h)
 
     -- and there it is read to the same numbers
-    pub wrapped-reads : (y : Stream) × (streamIn (rawBlock index (wrapping index bytes n) 56 (8 * frameLength n)) ≡ got y n) × SameNumbers y x
+    pub wrapped-reads : (y : Stream)
+        × (streamIn (rawBlock index (wrapping index bytes n) 56 (8 * frameLength n)) ≡ got y n)
+        × SameNumbers y x
     unfolding spellBlock
     wrapped-reads =
         let f = wrapping index bytes n in
@@ -103,7 +102,8 @@ module _ (index : ℕ) (bytes : List ℕ) (n : ℕ) (x : Stream) (e : whole (str
         let w = moved index bytes 0 (8 * length bytes) n x own f 63 end (omega arith) wrapped-alike in
         let last = rw (each-total bytes 0 n) at (holds-rest f 63 (eachBit bytes 0 n) (piece 7 3 ∷ []) (h .1 .1) .0) in (
           w .0,
-          block-there index f end n (w .0) (element-there 0 f 56 end (omega arith) (h .0)) (sym (is-field 4 f 59 end (omega arith) (sym (h .1 .0))))
+          block-there index f end n (w .0) (element-there 0 f 56 end (omega arith) (h .0))
+              (sym (is-field 4 f 59 end (omega arith) (sym (h .1 .0))))
               (w .1) (element-there 7 f (63 + n) end (omega arith) last) (omega arith),
           w .2,
         )

@@ -1,6 +1,6 @@
 -- What a frame that wraps a stream holds: each field of its header, and the stream's bits from bit 63 on.
 -- Assumes nothing.
-use Prim.Native.Nat.{ℕ, _+_, _*_, _-_, _<_, _≤_, _^_}
+use Prim.Native.Nat.{ℕ, _+_, _-_, _<_, _≤_}
 use mathlib.Core.Path.{_≡_, refl, sym, _∙_, ap}
 use mathlib.Core.Bool.{true}
 use mathlib.Core.List.{List, [], _∷_, _++_}
@@ -10,21 +10,18 @@ use borrow.Author.Tests.{le-leb, eq-eqb}
 use Rattle.bits.specs.Bits.{bitsFrom}
 use Rattle.bits.specs.Reader.{got}
 use Rattle.bits.specs.Pieces.{Piece, piece}
-use Rattle.bits.specs.Packed.{bytesFor, packed}
+use Rattle.bits.specs.Packed.{bytesFor}
 use Rattle.bits.specs.Sampling.{knownIndex}
-use Rattle.bits.proofs.Back.{holds-first, holds-rest}
 use Rattle.bits.proofs.Holds.{Holds}
-use Rattle.bits.proofs.Moves.{Alike}
 use Rattle.bits.proofs.PackedLaws.{packed-holds, packed-length}
 use Rattle.bits.proofs.PutLaws.{Sized}
 use Rattle.adts.specs.Cut.{eachBit}
 use Rattle.adts.specs.Frame.{fitting, frameHeader}
 use Rattle.adts.specs.InnerHeader.{headerRefusal}
 use Rattle.adts.specs.Wrapping.{spellKind, spellVoice, spellVariableHalf, spellBlock, frameLength, wrapping}
-use Rattle.adts.proofs.CutLaws.{each-total}
-use Rattle.adts.proofs.HeaderLaws.{kept, header-right}
+use Rattle.adts.proofs.HeaderLaws.{header-right}
 use Rattle.adts.proofs.WrappingLaws.{frame-total}
-use Rattle.adts_laws.proofs.CutBits.{sized-append, each-sized, holds-alike}
+use Rattle.adts_laws.proofs.CutBits.{sized-append, each-sized}
 
 module _ (index : ℕ) (bytes : List ℕ) (n : ℕ) where
   abbrev frame : List ℕ

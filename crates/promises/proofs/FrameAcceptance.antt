@@ -3,7 +3,7 @@
 use Prim.Native.Nat.{ℕ, _+_, _*_, _-_, _≤_}
 use mathlib.Core.Path.{_≡_, refl, sym, _∙_, ap}
 use mathlib.Core.List.{List}
-use mathlib.Core.Bool.{Bool, true, false, _&&_}
+use mathlib.Core.Bool.{Bool, true, false}
 use native.Mathlib.Omega.{arith}
 use lib.Dec.{eqb, leb}
 use lib.ListN.{length, drop}
@@ -11,13 +11,12 @@ use borrow.Author.Tests.{le-leb, leb-true, eqb-true}
 use Rattle.bits.specs.Reader.{Answer, got, refused, pick}
 use Rattle.bits.specs.Field.{field}
 use Rattle.bits.specs.Payload.{ended}
-use Rattle.bits.specs.Places.{here}
 use Rattle.bits.proofs.FieldLaws.{field-taken}
 use Rattle.bits.proofs.Lawful.{never, same-value, split, tested-got}
-use Rattle.channel.specs.Stream.{Stream, stream}
+use Rattle.channel.specs.Stream.{Stream}
 use Rattle.adts.specs.Header.{Header}
 use Rattle.adts.specs.Block.{Block, element, singleChannel, rawBlock}
-use Rattle.adts.specs.Frame.{wholeHeader, fitting, lengthJudged, frameHeader, streamIn}
+use Rattle.adts.specs.Frame.{wholeHeader, fitting, frameHeader, streamIn}
 use Rattle.adts.specs.Promise.{headerAt, streamAt, outputsFit}
 use Rattle.adts.proofs.BlockLaws.{element-held, stream-held}
 use Rattle.adts_laws.proofs.FrameCalls.{header-there}
@@ -104,7 +103,13 @@ module _ (file : List ℕ) (start lines factors books : ℕ) (h : Header) (x : S
   unfolding headerAt frameHeader fitting
   frame-allowed a =
       let header : headerAt file start (outputsFit lines factors books) ≡ got h 56 =
-      rw (le-leb start (length file) (a .inside), a .fit, a .header .1, le-leb 7 (h .length) (a .long), le-leb (h .length) (length bytes) (a .there)) in
+      rw (
+        le-leb start (length file) (a .inside),
+        a .fit,
+        a .header .1,
+        le-leb 7 (h .length) (a .long),
+        le-leb (h .length) (length bytes) (a .there),
+      ) in
       let block = block-there (h .index) bytes end bits x (a .opening) (a .tag .1) (a .read) (a .finish) (a .left) in
       (header, ap (streamAt file start) header ∙ block)
 

@@ -1,27 +1,26 @@
--- Every number that reading, unwrapping or wrapping a frame gives is 0 or a refusal of the table: where it is 0 there is a stream, else what
--- was lent is as it was.
+-- Every number that reading, unwrapping or wrapping a frame gives is 0 or a refusal of the table: where it is 0 there is a stream, else
+-- what was lent is as it was.
 -- Assumes nothing.
 use Prim.Native.Nat.{ℕ, _*_, _-_}
-use mathlib.Core.Path.{_≡_, refl, sym, _∙_, subst}
+use mathlib.Core.Path.{_≡_, refl, sym, subst}
 use mathlib.Core.List.{List}
 use mathlib.Core.Logic.{_≢_}
 use mathlib.Core.Bool.{Bool, true, false, _&&_}
-use lib.Dec.{eqb, leb}
+use lib.Dec.{leb}
 use lib.ListN.{length, drop}
-use Rattle.bits.specs.Reader.{Answer, got, refused, Reader, give, pick, expecting, _>>=_}
+use Rattle.bits.specs.Reader.{Answer, got, refused, Reader, give, pick, _>>=_}
 use Rattle.bits.specs.Field.{field}
 use Rattle.bits.specs.Payload.{ended}
 use Rattle.bits.specs.Places.{here}
-use Rattle.bits.specs.Sampling.{knownIndex}
 use Rattle.bits.proofs.Bools.{true-false}
 use Rattle.bits.proofs.Lawful.{never}
 use Rattle.bits.proofs.Numbered.{Numbered, give-numbered, here-numbered, field-numbered, bind-numbered}
 use Rattle.bits.proofs.Numbered.{expecting-numbered, oneField-numbered, inside-numbered}
 use Rattle.channel.specs.Stream.{Stream, stream}
-use Rattle.channel.specs.Promise.{channel, readingOf}
+use Rattle.channel.specs.Promise.{readingOf}
 use Rattle.adts.specs.Header.{Header, syncword, only, samplingIndex, fixedHalf, variableHalf, header}
 use Rattle.adts.specs.Block.{Block, element, singleChannel, rawBlock}
-use Rattle.adts.specs.Frame.{wholeHeader, fitting, lengthJudged, frameHeader, blockAfter, streamIn}
+use Rattle.adts.specs.Frame.{wholeHeader, fitting, lengthJudged, frameHeader, streamIn}
 use Rattle.adts.specs.Wrapping.{frameLength}
 use Rattle.adts.specs.Promise.{headerAt, streamAt, fitted, unwrapped, wrappable, wrappedOf, wrappedBytes}
 use Rattle.bits.specs.Packed.{bytesFor}
@@ -142,8 +141,8 @@ fitted-told size room (got x bits) f n p e = go (leb (size bits) room) e
     go true e = not-refused e
     go false e = let z : 2 ≡ n = cc in subst (λ (k : ℕ). isRefusal k ≡ true) z refl
 
-pub unwrap-refusals : (file : List ℕ) (start room n p : ℕ) → fitted bytesFor room (streamAt file start (headerAt file start true)) ≡ refused n p
-    → isRefusal n ≡ true
+pub unwrap-refusals : (file : List ℕ) (start room n p : ℕ)
+    → fitted bytesFor room (streamAt file start (headerAt file start true)) ≡ refused n p → isRefusal n ≡ true
 unwrap-refusals file start room = fitted-told bytesFor room _ (frame-refusals file start true)
 
 pub wrap-refusals : (buf : List ℕ) (start end index room n p : ℕ) → wrappable buf start end index room ≡ refused n p → isRefusal n ≡ true

@@ -4,9 +4,8 @@
 use Prim.Native.Nat.{ℕ, _≤_}
 use mathlib.Core.Path.{_≡_, refl, sym, _∙_, ap}
 use mathlib.Core.List.{List}
-use mathlib.Core.Bool.{Bool, true, false, _&&_}
+use mathlib.Core.Bool.{Bool, true}
 use lib.IntN.{ℤ}
-use lib.Dec.{leb}
 use lib.ListN.{length, drop}
 use borrow.Author.Tests.{le-leb}
 use Rattle.bits.specs.Reader.{Answer, got, refused}
@@ -15,18 +14,20 @@ use Rattle.bits.specs.Packed.{bytesFor}
 use Rattle.bits.specs.Payload.{range}
 use Rattle.bits.proofs.Lawful.{never}
 use Rattle.channel.specs.Stream.{Stream}
-use Rattle.channel.specs.Promise.{channelCallRefusal, channel, accepted, readingOf, linesAfter, factorsAfter, booksAfter, ReadChannelPromise}
+use Rattle.channel.specs.Promise.{channelCallRefusal, channel, accepted, readingOf, linesAfter, factorsAfter, booksAfter}
+use Rattle.channel.specs.Promise.{ReadChannelPromise}
 use Rattle.channel.specs.declared.Reading.{Reading}
 use Rattle.channel.specs.declared.stream.Head.{Head}
 use Rattle.adts.specs.Header.{Header}
 use Rattle.adts.specs.Cut.{cutOut}
 use Rattle.adts.specs.Wrapping.{frameLength}
-use Rattle.adts.specs.Promise.{headerAt, streamAt, framed, outputsFit, fitted, unwrapped, wrappable, wrappedOf, wrappedBytes}
+use Rattle.adts.specs.Promise.{headerAt, streamAt, framed, outputsFit, wrappable, wrappedOf, wrappedBytes}
 use Rattle.adts.specs.Promise.{ReadFramePromise, UnwrapPromise, WrapPromise}
 use Rattle.adts.specs.declared.Framed.{Framed}
 use Rattle.adts.specs.declared.Wrapped.{Wrapped}
 use Rattle.adts_laws.proofs.RoundTrips.{SameNumbers}
-use Rattle.adts_laws.proofs.FrameCalls.{fitted-held, header-there, wrapped-header-read, wrapped-stream-read, wrapped-unwraps, unwrapped-accepted}
+use Rattle.adts_laws.proofs.FrameCalls.{fitted-held, header-there, wrapped-header-read, wrapped-stream-read, wrapped-unwraps}
+use Rattle.adts_laws.proofs.FrameCalls.{unwrapped-accepted}
 use Rattle.promises.proofs.FrameNumbers.{frame-refusals, wrap-refusals, taken}
 use Rattle.promises.specs.Refusals.{isRefusal}
 
@@ -145,7 +146,7 @@ module _ (file : List ℕ) (start : ℕ) (lines : List ℤ) (factors books : Lis
   fits : fit ≡ true
   fits = header-there file start fit (header-is .0) (header-is .1) (header-is .2) .1
 
-  answers : (q ≡ record { index = header-is .0 .index; length = header-is .0 .length; reading = accepted (stream-there .0 .head) (stream-there .1) })
+  answers : (q ≡ framedWith (header-is .0 .index) (header-is .0 .length) (accepted (stream-there .0 .head) (stream-there .1)))
       × (ls ≡ linesAfter (got (stream-there .0) (stream-there .1)) lines)
       × (fs ≡ factorsAfter (got (stream-there .0) (stream-there .1)) factors)
       × (bs ≡ booksAfter (got (stream-there .0) (stream-there .1)) books)
@@ -162,6 +163,17 @@ module _ (file : List ℕ) (start : ℕ) (lines : List ℤ) (factors books : Lis
     enough : bytesFor (stream-there .1) ≤ length out
     enough = rw (answers .0) at room
 
+    -- what is unwrapped, as a payload of the channel's reader
+    abbrev cut : List ℕ
+    cut = over out 0 (cutOut (drop start file) 63 (stream-there .1))
+
+    as-payload : (y : Stream)
+        × (channel cut 0 (bytesFor (stream-there .1)) (header-is .0 .index) 1024 120 120 ≡ got y (stream-there .1))
+        × SameNumbers y (stream-there .0)
+    as-payload =
+        unwrapped-accepted file start true (header-is .0) (header-is .1) header-true out (stream-there .0) (stream-there .1) stream-true
+        enough
+
     unwraps : (u ≡ q) × (out′ ≡ over out 0 (cutOut (drop start file) 63 (stream-there .1)))
     unwraps =
         let g = rw (stream-true, header-true, le-leb (bytesFor (stream-there .1)) (length out) enough) at p in
@@ -174,7 +186,7 @@ module _ (file : List ℕ) (start : ℕ) (lines : List ℤ) (factors books : Lis
         → ReadChannelPromise out′ 0 (bytesFor (q .reading .bits)) (q .index) lines factors books r ls′ fs′ bs′
         → (r ≡ q .reading) × (ls′ ≡ ls) × (fs′ ≡ fs) × (bs′ ≡ bs)
     unwrap-read r ls′ fs′ bs′ c =
-        let a = unwrapped-accepted file start true (header-is .0) (header-is .1) header-true out (stream-there .0) (stream-there .1) stream-true enough in
+        let a = as-payload in
         let e = fit-channel _ 0 (bytesFor (stream-there .1)) (header-is .0 .index) lines factors books fits ∙ a .1 in
         let g = rw (answers .0, unwraps .1, e) at c in
         let o = a .2 in (
@@ -190,8 +202,7 @@ module _ (file : List ℕ) (start : ℕ) (lines : List ℤ) (factors books : Lis
       pub again-wraps : frameLength (q .reading .bits) ≤ length again → w .number ≡ 0
       unfolding wrappable
       again-wraps l =
-          let a = unwrapped-accepted file start true (header-is .0) (header-is .1) header-true out (stream-there .0) (stream-there .1) stream-true
-          enough in
+          let a = as-payload in
           let fits-again : frameLength (stream-there .1) ≤ length again = rw (answers .0) at l in
           let g = rw (answers .0, unwraps .1, a .1, le-leb (frameLength (stream-there .1)) (length again) fits-again) at c in
           ap (λ (v : Wrapped). v .number) (g .0)
@@ -202,10 +213,12 @@ module _ (file : List ℕ) (start : ℕ) (lines : List ℤ) (factors books : Lis
       again-reads ok′ q′ ls′ fs′ bs′ d =
           let n = bytesFor (q .reading .bits) in
           let x = channel out′ 0 n (q .index) (length lines) (length factors) (length books) in
-          let own = unwrap-read (readingOf x) (linesAfter x lines) (factorsAfter x factors) (booksAfter x books) (refl, (refl, (refl, refl))) in
-          let g =
-          wrap-read out′ 0 n (q .index) again w again′ c ok′ lines factors books fits (readingOf x) (linesAfter x lines) (factorsAfter x factors)
-          (booksAfter x books) (refl, (refl, (refl, refl))) q′ ls′ fs′ bs′ d in (
+          let ls = linesAfter x lines in
+          let fs = factorsAfter x factors in
+          let bs = booksAfter x books in
+          let own = unwrap-read (readingOf x) ls fs bs (refl, (refl, (refl, refl))) in
+          let read = wrap-read out′ 0 n (q .index) again w again′ c ok′ lines factors books fits (readingOf x) ls fs bs in
+          let g = read (refl, (refl, (refl, refl))) q′ ls′ fs′ bs′ d in (
             g .0 ∙ ap (λ (r : Reading). framedWith (q .index) (w .length) r) (own .0),
             g .1 ∙ own .1,
             g .2 ∙ own .2,

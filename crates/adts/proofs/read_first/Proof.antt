@@ -1,6 +1,5 @@
 -- A header that is refused stops the reading; a block that was read is copied out, a refused one copies nothing.
-use mathlib.Core.Path.{refl, sym, _∙_}
-use native.Mathlib.Omega.{arith}
+use mathlib.Core.Path.{refl, _∙_}
 use borrow.Author.Needs.{needs}
 use borrow.Author.Tests.{ne-eqb}
 use Rattle.adts.proofs.read_first.Statement.{statement}

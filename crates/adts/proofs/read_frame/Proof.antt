@@ -25,7 +25,8 @@ returns-2 c =
     rw (there, no) (c .unframed2 .ensures, (refl, (refl, refl)))
 
 -- past the judgement the outputs fit
-roomy : (c : tie.Else2) → outputsFit (length (entry c .args .lines .now)) (length (entry c .args .factors .now)) (length (entry c .args .books .now)) ≡ true
+roomy : (c : tie.Else2)
+    → outputsFit (length (entry c .args .lines .now)) (length (entry c .args .factors .now)) (length (entry c .args .books .now)) ≡ true
 roomy c = sym (c .before .outputs-fit .ensures) ∙ not-false _ (c .if2 .left)
 
 read-first-requires : tie.Need-read-first-requires

@@ -1,6 +1,6 @@
 -- What the channel's reader judges before any bit, then the slice of the range.
 use Prim.Native.Nat.{_≤_}
-use mathlib.Core.Path.{_≡_, refl, sym, _∙_}
+use mathlib.Core.Path.{refl, sym, _∙_}
 use native.Mathlib.Omega.{arith}
 use lib.ListN.{length}
 use borrow.Author.Needs.{needs}
@@ -22,7 +22,8 @@ returns : tie.Need-returns
 unfolding wrappable
 returns c =
     let a = c .before .before .before .before .before .args in
-    let no = channel-not (a .buf .now) (a .start) (a .end) (a .index) 1024 120 120 _ (c .before .before .channel-call-refusal .ensures) (c .before .if1 .taken) in
+    let judged = c .before .before .channel-call-refusal .ensures in
+    let no = channel-not (a .buf .now) (a .start) (a .end) (a .index) 1024 120 120 _ judged (c .before .if1 .taken) in
     rw no (c .unwrappable .ensures, refl)
 
 sub-wrap-slice : tie.Need-sub-wrap-slice

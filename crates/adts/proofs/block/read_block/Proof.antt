@@ -26,7 +26,8 @@ returns-3 c =
     let element = block .before .before .before .before in
     let x = element .before .before .before .before .before .before .before .args in
     let e = rw (element .element-ended .given .1) at (element .before .before .read-channel-element .ensures) in
-    let whole = with-element (x .index) (x .s .now) (x .end) (e .2) (block .before .before .read-end .ensures) (block .enum-told2 .given .1) in
+    let end = block .before .before .read-end .ensures in
+    let whole = with-element (x .index) (x .s .now) (x .end) (e .2) end (block .enum-told2 .given .1) in
     (e .0, e .1, whole ∙ rw (c .before .remaining .ensures))
 
 pub read-block-spec : {M : Type 1} → statement M

@@ -1,5 +1,4 @@
 -- The arrays are read and left behind.
-use mathlib.Core.Path.{refl}
 use borrow.Author.Needs.{needs}
 use Rattle.adts.proofs.BlockLaws.{head-held}
 use Rattle.adts.proofs.block.read_lone_block.Statement.{statement}

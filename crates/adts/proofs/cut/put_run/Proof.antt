@@ -1,12 +1,10 @@
 -- After i turns the first i bits are put.
-use Prim.Native.Nat.{ℕ, _+_, _-_, _≤_}
+use Prim.Native.Nat.{_+_, _-_, _≤_}
 use mathlib.Core.Path.{_≡_, refl, _∙_, ap}
-use mathlib.Core.List.{List}
 use native.Mathlib.Omega.{arith}
 use borrow.Author.Needs.{needs}
 use lib.ListN.{length}
-use Rattle.bits.specs.Bits.{bitsFrom}
-use Rattle.bits.specs.Packed.{put, putAll}
+use Rattle.bits.specs.Packed.{putAll}
 use Rattle.bits.proofs.PutLaws.{put-all-length}
 use Rattle.adts.specs.Cut.{eachBit}
 use Rattle.adts.proofs.CutLaws.{each-more}
@@ -36,7 +34,8 @@ loop-again c =
     let a = l .before .before .before .args in
     let e : c .before .before .put-bits .last .0 ≡ putAll (a .out .now) (a .at) (eachBit (a .s .now) (a .from) (l .loop .i + 1)) =
     c .before .before .put-bits .ensures
-    ∙ rw (c .before .before .before .bits-at .ensures, l .loop .inv .2) (each-more (a .s .now) (a .out .now) (a .at) (a .from) (l .loop .i)) in
+    ∙ rw (c .before .before .before .bits-at .ensures, l .loop .inv .2)
+    (each-more (a .s .now) (a .out .now) (a .at) (a .from) (l .loop .i)) in
     (search needs, ap length e ∙ put-all-length (a .out .now) (a .at) _, e)
 
 returns : tie.Need-returns Inv-loop μ-loop

@@ -77,7 +77,8 @@ returns-5 : tie.Need-returns-5
 unfolding headerRefusal
 returns-5 c =
     let e = early (c .before .before .before) in
-    let told = sym (ap knownIndex (c .before .before .index-in .ensures)) ∙ sym (c .before .is-known-index .ensures) ∙ not-true _ (c .if5 .taken) in
+    let index = sym (ap knownIndex (c .before .before .index-in .ensures)) in
+    let told = index ∙ sym (c .before .is-known-index .ensures) ∙ not-true _ (c .if5 .taken) in
     rw (e .0, e .1, e .2, e .3, told)
 
 returns-6 : tie.Need-returns-6

@@ -1,5 +1,4 @@
 -- The two tests are the definition's; a length that passes them is no more than the bytes that are there.
-use mathlib.Core.Path.{_≡_, refl}
 use native.Mathlib.Omega.{arith}
 use borrow.Author.Tests.{le-leb, lt-leb}
 use borrow.Author.Needs.{needs}

@@ -24,7 +24,8 @@ returns c =
     let long = ap bytesFor (sym (frame-total (a .index) (frameLength (a .n)) (a .s .now) (a .n))) in
     block .put-block .ensures
     ∙ rw (half .put-variable-half .ensures, voice .put-voice .ensures, kind .put-kind .ensures, at-clear .clear .ensures, size)
-    (parts-put (a .index) (frameLength (a .n)) (a .s .now) (a .n) _ ∙ packed-over spelled (a .out .now) (frameLength (a .n)) long (start .pre .0))
+    (parts-put (a .index) (frameLength (a .n)) (a .s .now) (a .n) _
+    ∙ packed-over spelled (a .out .now) (frameLength (a .n)) long (start .pre .0))
 
 pub put-frame-spec : {M : Type 1} → statement M
 put-frame-spec =
