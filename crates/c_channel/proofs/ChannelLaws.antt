@@ -13,8 +13,7 @@ use Rattle.bits.specs.Reader.{Answer, refused, pick}
 use Rattle.bits.specs.Payload.{inBuffer}
 use Rattle.bits.proofs.SamplingLaws.{large-unknown}
 use Rattle.channel.specs.Stream.{Stream}
-use Rattle.channel.specs.Promise.{channel, readingOf, linesAfter, factorsAfter, booksAfter}
-use Rattle.channel.specs.Promise as promise
+use Rattle.channel.specs.Promise.{channelCallRefusal, channel, readingOf, linesAfter, factorsAfter, booksAfter}
 use Rattle.channel.specs.declared.Reading.{Reading}
 use Rattle.bits.specs.Bytes.{over}
 use Rattle.bits.specs.Calls.{callRefusal}
@@ -29,9 +28,19 @@ never false l = refl
 module _ (buf : List ℕ) (start end index lines factors books : ℕ) where
   narrowed-by : (b : Bool) → ltb index 256 ≡ b
       → channel buf start end (pick b index 0) lines factors books ≡ channel buf start end index lines factors books
-  unfolding channel promise.channelCallRefusal
+  unfolding channel channelCallRefusal
   narrowed-by true e = refl
   narrowed-by false e =
+      let no = never (inBuffer start end (length buf)) (leb 1024 lines && leb 120 factors && leb 120 books) in
+      let h = ltb-false index 256 e in
+      rw (large-unknown index (omega arith), no)
+
+  -- one that is too large is never read
+  pub large-refused : ltb index 256 ≡ false
+      → channel buf start end index lines factors books
+      ≡ refused (channelCallRefusal (length buf) start end index lines factors books) 0
+  unfolding channel channelCallRefusal
+  large-refused e =
       let no = never (inBuffer start end (length buf)) (leb 1024 lines && leb 120 factors && leb 120 books) in
       let h = ltb-false index 256 e in
       rw (large-unknown index (omega arith), no)

@@ -11,7 +11,7 @@ use bits::calls::call_refusal;
 use channel::Reading;
 
 // An index as the reader takes it; one that is too large is none.
-fn narrow(index: u32) -> u8
+pub fn narrow(index: u32) -> u8
     ensures { λ r. ⌜ r ≡ pick (ltb index 256) index 0 ⌝ }
 {
     if index < 256 {
@@ -28,10 +28,10 @@ fn put_groups(answer: &mut [u8], groups: [u8; 8])
     bytes::put(answer, 9, &groups);
 }
 
-// A reading is put at the front of a lent answer.
-fn put_reading(answer: &mut [u8], r: Reading)
+// A reading is put at the front of a lent answer: 17 bytes.
+pub fn put_reading(answer: &mut [u8], r: Reading)
     requires { ⌜ 17 ≤ length (now answer) ⌝ }
-    ensures { λ _. ⌜ now (answer .exit) ≡ over (now (answer .entry)) 0 (channelBytes r) ⌝ }
+    ensures { λ _. ⌜ (now (answer .exit) ≡ over (now (answer .entry)) 0 (channelBytes r)) × (length (channelBytes r) ≡ 17) ⌝ }
 {
     let word = bytes::word_of(r.bits);
     bytes::put(answer, 0, &word);

@@ -57,7 +57,7 @@ returns-3 c =
     let ends = accepted (a .buf .now) (a .start) (a .end) (a .index) (a .lines .now) (a .factors .now) (a .books .now) (a .answer .now)
     (called (tested read)) _ (narrowed read .narrow .ensures) _ _ _ _ (x .0) (x .1 .0) (x .1 .1 .0) (x .1 .1 .1)
     (put .before .before .if2 .left) in
-    (ends .0, (ends .1 .0, (ends .1 .1 .0, (ends .1 .1 .1 .0, put .put-reading .ensures ∙ ends .1 .1 .1 .1))))
+    (ends .0, (ends .1 .0, (ends .1 .1 .0, (ends .1 .1 .1 .0, put .put-reading .ensures .0 ∙ ends .1 .1 .1 .1))))
 
 pub oarcradler-read-channel-spec : {M : Type 1} → statement M
 oarcradler-read-channel-spec =

@@ -22,7 +22,7 @@ returns c =
     (word .put .ensures ∙ rw (word .before .before .before .word-of .ensures), refl) in
     let at-9 = put-next (a .answer .now) 0 _ 4 (r .gain ∷ r .sequence ∷ r .shape ∷ r .«max_sfb» ∷ r .«group_count» ∷ []) 5 at-4
     (head .put2 .ensures, refl) (omega arith) in
-    put-next (a .answer .now) 0 _ 9 (r .groups) 8 at-9 (groups .put-groups .ensures) (omega arith) .0
+    put-next (a .answer .now) 0 _ 9 (r .groups) 8 at-9 (groups .put-groups .ensures) (omega arith)
 
 pub put-reading-spec : {M : Type 1} → statement M
 put-reading-spec =

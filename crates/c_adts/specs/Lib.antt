@@ -1,0 +1,4 @@
+pub mod FrameBytes
+pub mod ReadFrame
+pub mod UnwrapFrame
+pub mod WrapStream
