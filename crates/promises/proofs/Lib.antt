@@ -4,6 +4,7 @@ pub mod RoundTrips
 pub mod FrameNumbers
 pub mod FrameTrips
 pub mod FrameAcceptance
+pub mod FrameExamples
 pub mod UniqueFrames
 pub mod Demands
 pub mod Unique
