@@ -6,11 +6,12 @@ use mathlib.Core.Path.{_≡_, refl, sym, subst}
 use mathlib.Core.List.{List}
 use mathlib.Core.Logic.{_≢_}
 use mathlib.Core.Bool.{Bool, true, false, _&&_}
-use lib.Dec.{leb}
+use lib.Dec.{eqb, leb}
 use lib.ListN.{length, drop}
+use borrow.Author.Tests.{ne-eqb}
 use Rattle.bits.specs.Reader.{Answer, got, refused, Reader, give, pick, _>>=_}
 use Rattle.bits.specs.Field.{field}
-use Rattle.bits.specs.Payload.{ended}
+use Rattle.bits.specs.Payload.{inBuffer, ended}
 use Rattle.bits.specs.Places.{here}
 use Rattle.bits.proofs.Bools.{true-false}
 use Rattle.bits.proofs.Lawful.{never}
@@ -22,8 +23,10 @@ use Rattle.adts.specs.Header.{Header, syncword, only, samplingIndex, fixedHalf,
 use Rattle.adts.specs.Block.{Block, element, singleChannel, rawBlock}
 use Rattle.adts.specs.Frame.{wholeHeader, fitting, lengthJudged, frameHeader, streamIn}
 use Rattle.adts.specs.Wrapping.{frameLength}
-use Rattle.adts.specs.Promise.{headerAt, streamAt, fitted, unwrapped, wrappable, wrappedOf, wrappedBytes}
+use Rattle.adts.specs.Promise.{headerAt, streamAt, framed, fitted, unwrapped, wrappable, wrappedOf, wrappedBytes}
 use Rattle.bits.specs.Packed.{bytesFor}
+use Rattle.c_adts.specs.FrameBytes.{frameAnswerAfter}
+use Rattle.c_adts.specs.WrapStream.{wrapCall, wrapAnswerAfter}
 use Rattle.promises.specs.Refusals.{isRefusal, isAnswered}
 use Rattle.promises.proofs.ChannelNumbers.{stream-own}
 use Rattle.promises.proofs.Refusals.{stream-told, refused-answered, channel-refusals}
@@ -141,9 +144,9 @@ fitted-told size room (got x bits) f n p e = go (leb (size bits) room) e
     go true e = not-refused e
     go false e = let z : 2 ≡ n = cc in subst (λ (k : ℕ). isRefusal k ≡ true) z refl
 
-pub unwrap-refusals : (file : List ℕ) (start room n p : ℕ)
-    → fitted bytesFor room (streamAt file start (headerAt file start true)) ≡ refused n p → isRefusal n ≡ true
-unwrap-refusals file start room = fitted-told bytesFor room _ (frame-refusals file start true)
+pub unwrap-refusals : (file : List ℕ) (start : ℕ) (fit : Bool) (room n p : ℕ)
+    → fitted bytesFor room (streamAt file start (headerAt file start fit)) ≡ refused n p → isRefusal n ≡ true
+unwrap-refusals file start fit room = fitted-told bytesFor room _ (frame-refusals file start fit)
 
 pub wrap-refusals : (buf : List ℕ) (start end index room n p : ℕ) → wrappable buf start end index room ≡ refused n p → isRefusal n ≡ true
 unfolding wrappable
@@ -164,16 +167,29 @@ pub frame-answered : (file : List ℕ) (start : ℕ) (room : Bool)
     → isAnswered (readingOf (streamAt file start (headerAt file start room)) .number) ≡ true
 frame-answered file start room = answered (streamAt file start (headerAt file start room)) (frame-refusals file start room)
 
-pub unwrap-answered : (file : List ℕ) (start room : ℕ)
-    → isAnswered (readingOf (fitted bytesFor room (streamAt file start (headerAt file start true))) .number) ≡ true
-unwrap-answered file start room = answered _ (unwrap-refusals file start room)
+pub unwrap-answered : (file : List ℕ) (start : ℕ) (fit : Bool) (room : ℕ)
+    → isAnswered (readingOf (fitted bytesFor room (streamAt file start (headerAt file start fit))) .number) ≡ true
+unwrap-answered file start fit room = answered _ (unwrap-refusals file start fit room)
+
+wrapped-answered : (x : Answer Stream) → ((n p : ℕ) → x ≡ refused n p → isRefusal n ≡ true) → isAnswered (wrappedOf x .number) ≡ true
+wrapped-answered (got s bits) f = refl
+wrapped-answered (refused n p) f = refused-answered n (f n p refl)
 
 pub wrap-answered : (buf : List ℕ) (start end index room : ℕ) → isAnswered (wrappedOf (wrappable buf start end index room) .number) ≡ true
-wrap-answered buf start end index room = go (wrappable buf start end index room) (wrap-refusals buf start end index room)
+wrap-answered buf start end index room = wrapped-answered _ (wrap-refusals buf start end index room)
+
+-- for C the answer's room is judged with the outputs, or after the range
+pub wrap-call-answered : (buf : List ℕ) (start end index out room : ℕ)
+    → isAnswered (wrappedOf (wrapCall buf start end index out room) .number) ≡ true
+unfolding wrapCall
+wrap-call-answered buf start end index out room = wrapped-answered _ (by-tests (inBuffer start end (length buf)) (leb 4 room))
   where
-    go : (x : Answer Stream) → ((n p : ℕ) → x ≡ refused n p → isRefusal n ≡ true) → isAnswered (wrappedOf x .number) ≡ true
-    go (got s bits) f = refl
-    go (refused n p) f = refused-answered n (f n p refl)
+    by-tests : (a b : Bool) (n p : ℕ)
+        → pick (eqb (pick a (pick b 0 2) 1) 0) (wrappable buf start end index out) (refused (pick a (pick b 0 2) 1) 0) ≡ refused n p
+        → isRefusal n ≡ true
+    by-tests true true n p e = wrap-refusals buf start end index out n p e
+    by-tests true false n p e = let z : 2 ≡ n = cc in subst (λ (k : ℕ). isRefusal k ≡ true) z refl
+    by-tests false b n p e = let z : 1 ≡ n = cc in subst (λ (k : ℕ). isRefusal k ≡ true) z refl
 
 -- and one that is refused leaves what was lent
 pub unwrap-untouched : (bytes : List ℕ) (x : Answer Stream) → readingOf x .number ≢ 0 → (old : List ℕ) → unwrapped bytes x old ≡ old
@@ -184,3 +200,12 @@ pub wrap-untouched : (index : ℕ) (bytes : List ℕ) (x : Answer Stream) → wr
     → wrappedBytes index bytes x old ≡ old
 wrap-untouched index bytes (got s bits) h old = absurd (h refl)
 wrap-untouched index bytes (refused n p) h old = refl
+
+-- and so it does for C
+pub frame-answer-untouched : (h : Answer Header) (x : Answer Stream) → readingOf x .number ≢ 0 → (old : List ℕ)
+    → frameAnswerAfter (framed h (readingOf x)) old ≡ old
+frame-answer-untouched (got h next) x e old = rw (ne-eqb _ 0 e)
+frame-answer-untouched (refused n p) x e old = rw (ne-eqb _ 0 e)
+
+pub wrap-answer-untouched : (x : Answer Stream) → wrappedOf x .number ≢ 0 → (old : List ℕ) → wrapAnswerAfter x old ≡ old
+wrap-answer-untouched x e old = rw (ne-eqb _ 0 e)
