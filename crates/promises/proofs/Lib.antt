@@ -6,6 +6,7 @@ pub mod FrameTrips
 pub mod FrameAcceptance
 pub mod FrameExamples
 pub mod UniqueFrames
+pub mod UniqueFrameCalls
 pub mod Demands
 pub mod Unique
 pub mod UniqueCalls
