@@ -1,3 +1,2 @@
 pub mod OutlineLaws
 pub mod RowLaws
-pub mod SoundingLaws

@@ -8,8 +8,9 @@ use lib.ListN.{replicate}
 use Rattle.bits.specs.Reader.{Answer, got, refused}
 use Rattle.channel.specs.Stream.{Stream}
 use Rattle.channel.specs.Promise.{readingOf, linesAfter}
-use Rattle.image_outline.specs.Outline.{sounding, channelRow}
-use Rattle.image_outline.proofs.SoundingLaws.{sounding-zeros}
+use Rattle.sounding.specs.Sounding.{sounding}
+use Rattle.sounding.proofs.SoundingLaws.{sounding-zeros}
+use Rattle.image_outline.specs.Outline.{channelRow}
 
 pub row-refused : (x : Answer Stream) (n : ℕ) → n ≡ readingOf x .number → (readingOf x .number ≡ 0 → ⊥) → n ∷ 0 ∷ 0 ∷ 0 ∷ [] ≡ channelRow x
 row-refused (got x bits) n e h = absurd (h refl)

@@ -5,21 +5,16 @@ use Prim.Native.Nat.{ℕ, zero, suc, _+_, _*_}
 use mathlib.Core.Path.{_≡_}
 use mathlib.Core.List.{List, [], _∷_, _++_}
 use lib.Dec.{eqb, leb}
-use lib.IntN.{ℤ, natAbs}
 use lib.ListN.{length}
 use Rattle.bits.specs.Reader.{Answer, got, refused, pick}
 use Rattle.channel.specs.Stream.{Stream}
+use Rattle.sounding.specs.Sounding.{sounding}
 use Rattle.stereo_reader.specs.declared.Reading.{Reading}
 use Rattle.stereo.specs.declared.State.{State}
 use Rattle.image.specs.Image.{countOf, soundImage, refusedHeader, headerOf, bytesOf}
 use Rattle.image.specs.declared.Header.{Header}
 use Rattle.bits.specs.Bytes.{over}
 use Rattle.image_outline.specs.Answers.{isEven, channelIn, stereoIn, stateBefore}
-
--- how many lines are not 0
-unfoldable pub sounding : List ℤ → ℕ
-sounding [] = 0
-sounding (x ∷ xs) = pick (eqb (natAbs x) 0) (sounding xs) (sounding xs + 1)
 
 -- the numbers of a channel stream
 abbrev pub channelRow : Answer Stream → List ℕ

@@ -2,13 +2,14 @@
 ghost use mathlib.Core.Path.{_≡_};
 ghost use mathlib.Core.List.{[], _∷_};
 ghost use Prim.Native.Nat.{_+_, _*_, _≤_, _<_};
-ghost use lib.IntN.{pos};
 ghost use lib.ListN.{length, replicate};
 ghost use Rattle.image.specs.Image.{headerOf};
 ghost use Rattle.bits.specs.Bytes.{over};
 ghost use Rattle.image_outline.specs.Answers.{channelIn, stereoIn, stateFrom};
-ghost use Rattle.image_outline.specs.Outline.{sounding, channelRow, stereoRow, rowFrom, rowsOf, OutlinePromise};
+ghost use Rattle.image_outline.specs.Outline.{channelRow, stereoRow, rowFrom, rowsOf, OutlinePromise};
 use image::Header;
+use sounding::count_sounding;
+use sounding::no_lines;
 use stereo::State;
 use stereo::states;
 
@@ -24,28 +25,6 @@ fn wide(x: u8) -> usize
     ensures { λ r. ⌜ (r ≡ x) × (r < 256) ⌝ }
 {
     x as usize
-}
-
-// How many lines are not 0.
-fn count_sounding(lines: &[i16]) -> usize
-    ensures { λ r. ⌜ r ≡ sounding (now (lines .entry)) ⌝ }
-{
-    let mut n = 0;
-    let mut i = lines.len();
-    while 0 < i {
-        i -= 1;
-        if lines[i] != 0 {
-            n += 1;
-        }
-    }
-    n
-}
-
-// 1,024 lines of 0.
-fn no_lines() -> [i16; 1024]
-    ensures { λ r. ⌜ r ≡ replicate 1024 (pos 0) ⌝ }
-{
-    [0i16; 1024]
 }
 
 // A 0 for each band.

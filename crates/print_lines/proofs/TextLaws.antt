@@ -63,23 +63,23 @@ tens-are n m (suc j) f h =
           rw (lt-leb (10 ^ suc j) n (omega arith), tens-are n m j f h) (omega arith)
     ]
 
--- the fewest digits of a number of at most ten
-pub fewest : (n k : ℕ) → Fewest 10 1 n k → k ≤ 10 → tens 9 n + 1 ≡ k
+-- the fewest digits of a number of at most twenty
+pub fewest : (n k : ℕ) → Fewest 10 1 n k → k ≤ 20 → tens 19 n + 1 ≡ k
 fewest n zero f h = absurd (omega (arith, f .0))
 fewest n (suc m) f h =
     let e : suc m - 1 ≡ m = omega arith in
-    let t = tens-are n m 9 (λ p. rw e at (f .2 (omega arith))) (f .1) in
+    let t = tens-are n m 19 (λ p. rw e at (f .2 (omega arith))) (f .1) in
     omega (arith, t)
 
--- a number below 2^32 has at most ten
-pub few-digits : (n k : ℕ) → Fewest 10 1 n k → n < 4294967296 → k ≤ 10
+-- a number that is no letter has at most twenty
+pub few-digits : (n k : ℕ) → Fewest 10 1 n k → n < 18446744073709551360 → k ≤ 20
 few-digits n zero f h = omega arith
 few-digits n (suc m) f h =
-    elim (decLe m 9) [
+    elim (decLe m 19) [
       | yes d ↦ omega arith
       | no d ↦
           let e : suc m - 1 ≡ m = omega arith in
-          let r = ten-rises 10 m (omega arith) in
+          let r = ten-rises 20 m (omega arith) in
           let q : 10 ^ m ≤ n = rw e at (f .2 (omega arith)) in
           absurd (omega arith)
     ]
@@ -128,7 +128,7 @@ text-fits bytes at (b ∷ t) h =
     (text-fits (set bytes at b) (at + 1) t (omega arith)
     ∙ ap₂ lineOf (ap (λ (s : List ℕ). over s (at + 1) t) (one .0) ∙ over-then bytes at (at + 1) (b ∷ []) t refl (omega arith)) e)
 
--- a number takes at most ten bytes, so a form at most ten for each of its own
+-- a number takes at most twenty bytes, so a form at most twenty for each of its own
 digits-long : (k n : ℕ) → length (digits 10 k n) ≡ k
 digits-long zero n = refl
 digits-long (suc k) n = rw (length-append (digits 10 k (n / 10)) _, digits-long k (n / 10)) (omega arith)
@@ -141,23 +141,23 @@ tens-most (suc k) n = go (leb (10 ^ suc k) n) (tens-most k n)
     go true r = omega arith
     go false r = omega arith
 
-number-short : (n : ℕ) → length (numberText n) ≤ 10
+number-short : (n : ℕ) → length (numberText n) ≤ 20
 unfolding numberText
-number-short n = go (leb 4294967296 n)
+number-short n = go (leb 18446744073709551360 n)
   where
-    go : (b : Bool) → length (pick b (n % 256 ∷ []) (digits 10 (tens 9 n + 1) n)) ≤ 10
+    go : (b : Bool) → length (pick b (n % 256 ∷ []) (digits 10 (tens 19 n + 1) n)) ≤ 20
     go true = omega arith
-    go false = omega (arith, digits-long (tens 9 n + 1) n, tens-most 9 n)
+    go false = omega (arith, digits-long (tens 19 n + 1) n, tens-most 19 n)
 
-marked-short : (b : ℕ) (ns : List ℕ) → length (markedText b ns) ≤ 10
+marked-short : (b : ℕ) (ns : List ℕ) → length (markedText b ns) ≤ 20
 marked-short b ns = go (isMark b) ns
   where
-    go : (m : Bool) (ns : List ℕ) → length (pick m (firstText ns) (b ∷ [])) ≤ 10
+    go : (m : Bool) (ns : List ℕ) → length (pick m (firstText ns) (b ∷ [])) ≤ 20
     go true [] = omega arith
     go true (n ∷ ns) = number-short n
     go false ns = omega arith
 
-pub form-short : (form ns : List ℕ) → length (formText form ns) ≤ 10 * length form
+pub form-short : (form ns : List ℕ) → length (formText form ns) ≤ 20 * length form
 unfolding formText
 form-short [] ns = omega arith
 form-short (b ∷ bs) ns =

@@ -32,9 +32,9 @@ abbrev pub tens : ℕ → ℕ → ℕ
 tens zero n = 0
 tens (suc k) n = tens k n + pick (leb (10 ^ suc k) n) 1 0
 
--- a number in decimal, below 2^32; from there on the letter of its last 8 bits
+-- a number in decimal; the last 256 of 64 bits stand for a letter each, that of their last 8 bits
 unfoldable pub numberText : ℕ → List ℕ
-numberText n = pick (leb 4294967296 n) (n % 256 ∷ []) (digits 10 (tens 9 n + 1) n)
+numberText n = pick (leb 18446744073709551360 n) (n % 256 ∷ []) (digits 10 (tens 19 n + 1) n)
 
 -- the byte 35, `#`, is a mark
 abbrev pub isMark : ℕ → Bool

@@ -1,2 +1,3 @@
 pub mod InnerText
 pub mod InnerListing
+pub mod InnerFrames

@@ -1,4 +1,5 @@
-// The lines that the programs print: of each payload one in the listing, and in a dump what it holds and the stereo state after it.
+// The lines that the programs print: of each payload one in the listing, and in a dump what it holds and the stereo state after it; of each
+// frame of an ADTS file one; and why no image is made of a file.
 // A form is words with a mark `#` in place of each number. A line is written where all lines before it were (`ok`), and the answer is
 // whether it was.
 ghost use mathlib.Core.Path.{_≡_};
@@ -9,6 +10,8 @@ ghost use Rattle.print_lines.specs.InnerListing.{refusedImage, payloadCo
 
 pub mod channels;
 pub mod contents;
+pub mod faults;
+pub mod frames;
 mod marks;
 pub mod records;
 mod rows;
@@ -23,7 +26,7 @@ fn say_form(ok: bool, form: &[u8], numbers: &[usize]) -> bool {
 
 // A form, with the numbers in place of its marks, put at the front of a lent line.
 fn put_line(line: &mut [u8], form: &[u8], numbers: &[usize]) -> usize
-    requires { ⌜ 10 * length (now form) ≤ length (now line) ⌝ }
+    requires { ⌜ 20 * length (now form) ≤ length (now line) ⌝ }
     ensures { λ r. ⌜ HoldsLine (now (line .entry)) (formText (now (form .entry)) (now (numbers .entry))) r (now (line .exit)) ⌝ }
 {
     text::put_form(line, 0, form, numbers)
@@ -31,7 +34,7 @@ fn put_line(line: &mut [u8], form: &[u8], numbers: &[usize]) -> usize
 
 // The line of a bad image.
 fn put_refused_image(line: &mut [u8], number: u8) -> usize
-    requires { ⌜ 512 ≤ length (now line) ⌝ }
+    requires { ⌜ 1024 ≤ length (now line) ⌝ }
     ensures { λ r. ⌜ HoldsLine (now (line .entry)) (refusedImage number) r (now (line .exit)) ⌝ }
 {
     put_line(line, b"image refused #", &[number as usize])
@@ -39,7 +42,7 @@ fn put_refused_image(line: &mut [u8], number: u8) -> usize
 
 // The first line of a good one.
 fn put_count(line: &mut [u8], count: usize) -> usize
-    requires { ⌜ 512 ≤ length (now line) ⌝ }
+    requires { ⌜ 1024 ≤ length (now line) ⌝ }
     ensures { λ r. ⌜ HoldsLine (now (line .entry)) (payloadCount count) r (now (line .exit)) ⌝ }
 {
     put_line(line, b"payloads #", &[count])
@@ -47,7 +50,7 @@ fn put_count(line: &mut [u8], count: usize) -> usize
 
 // The line of a payload that was refused.
 fn put_refused(line: &mut [u8], k: usize, number: usize) -> usize
-    requires { ⌜ 512 ≤ length (now line) ⌝ }
+    requires { ⌜ 1024 ≤ length (now line) ⌝ }
     ensures { λ r. ⌜ HoldsLine (now (line .entry)) (refusedLine k number) r (now (line .exit)) ⌝ }
 {
     let numbers = [k, number];
@@ -60,7 +63,7 @@ fn put_refused(line: &mut [u8], k: usize, number: usize) -> usize
 // The line of a payload that was accepted: a channel stream's gain, non-zero lines and bits used, or a stereo payload's envelopes, 0
 // and bits used.
 fn put_accepted(line: &mut [u8], k: usize, first: usize, second: usize, bits: usize) -> usize
-    requires { ⌜ 512 ≤ length (now line) ⌝ }
+    requires { ⌜ 1024 ≤ length (now line) ⌝ }
     ensures { λ r. ⌜ HoldsLine (now (line .entry)) (acceptedLine k first second bits) r (now (line .exit)) ⌝ }
 {
     if k % 2 == 0 {
@@ -82,7 +85,7 @@ fn put_payload(
     second: usize,
     bits: usize,
 ) -> usize
-    requires { ⌜ 512 ≤ length (now line) ⌝ }
+    requires { ⌜ 1024 ≤ length (now line) ⌝ }
     ensures { λ r. ⌜ HoldsLine (now (line .entry)) (payloadLine k number first second bits) r (now (line .exit)) ⌝ }
 {
     if number != 0 {
@@ -93,21 +96,21 @@ fn put_payload(
 
 // The line of a bad image is written.
 pub fn say_refused_image(number: u8) -> bool {
-    let mut line = [0u8; 512];
+    let mut line = [0u8; 1024];
     let at = put_refused_image(&mut line, number);
     text::say(true, &mut line, at)
 }
 
 // The first line of a good one is written.
 pub fn say_count(count: usize) -> bool {
-    let mut line = [0u8; 512];
+    let mut line = [0u8; 1024];
     let at = put_count(&mut line, count);
     text::say(true, &mut line, at)
 }
 
 // The line of a payload, from its four numbers, is written.
 pub fn say_payload(k: usize, number: usize, first: usize, second: usize, bits: usize) -> bool {
-    let mut line = [0u8; 512];
+    let mut line = [0u8; 1024];
     let at = put_payload(&mut line, k, number, first, second, bits);
     text::say(true, &mut line, at)
 }

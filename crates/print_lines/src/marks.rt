@@ -1,13 +1,13 @@
-// What stands at a mark of a form: a number below 2^32, or 2^32 more than a letter.
+// What stands at a mark of a form: a number below 2^64 - 256, or so much more than a letter.
 
 // A dash, where there is none.
-pub const NONE: usize = 4294967296 + 45;
+pub const NONE: usize = 18446744073709551360 + 45;
 
 // The letter of coding across time.
-pub const TIME: usize = 4294967296 + 116;
+pub const TIME: usize = 18446744073709551360 + 116;
 
 // The letter of coding across frequency.
-pub const FREQUENCY: usize = 4294967296 + 102;
+pub const FREQUENCY: usize = 18446744073709551360 + 102;
 
 // A mode, where there is one.
 pub fn mode(there: bool, mode: u32) -> usize {

@@ -28,11 +28,11 @@ pub fn put(line: &mut [u8], at: usize, words: &[u8]) -> usize
     to
 }
 
-// A number in decimal; one of more than 32 bits stands for the letter of its last 8.
+// A number in decimal; each of the last 256 stands for the letter of its last 8 bits.
 pub fn put_number(line: &mut [u8], at: usize, n: usize) -> usize
     ensures { λ r. ⌜ lineOf (now (line .exit)) r ≡ withText (lineOf (now (line .entry)) at) (numberText n) ⌝ }
 {
-    if 4294967296 <= n {
+    if 18446744073709551360 <= n {
         return put_byte(line, at, (n % 256) as u8);
     }
     let mut digits = [0u8; 20];
@@ -96,14 +96,20 @@ pub fn put_signed(line: &mut [u8], at: usize, n: i16) -> usize {
     put_number(line, to, magnitude(n))
 }
 
-// The line is ended and written out, whole or not at all; the answer is whether all of it was written.
-pub fn say(ok: bool, line: &mut [u8], at: usize) -> bool {
-    if !ok {
-        return false;
-    }
+// The line is ended and written to standard output (1) or standard error (2), whole or not at all; the answer is whether all of it was
+// written.
+pub fn write_line(to: i32, line: &mut [u8], at: usize) -> bool {
     if line.len() <= at {
         return false;
     }
     line[at] = b'\n';
-    io::write_all(1, &line[..at + 1])
+    io::write_all(to, &line[..at + 1])
+}
+
+// The line is ended and written to standard output where all lines before it were; the answer is whether all of it was written.
+pub fn say(ok: bool, line: &mut [u8], at: usize) -> bool {
+    if !ok {
+        return false;
+    }
+    write_line(1, line, at)
 }

@@ -1,4 +1,4 @@
--- A form takes at most ten bytes for each of its own, so the line has room for all of it.
+-- A form takes at most twenty bytes for each of its own, so the line has room for all of it.
 -- Assumes nothing.
 use Prim.Native.Nat.{_+_, _≤_}
 use mathlib.Core.Path.{ap, _∙_}

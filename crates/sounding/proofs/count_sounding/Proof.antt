@@ -6,10 +6,10 @@ use native.Mathlib.Omega.{arith}
 use borrow.Author.Needs.{needs}
 use lib.IntN.{pos}
 use lib.ListN.{length, drop, getD}
-use Rattle.image_outline.specs.Outline.{sounding}
-use Rattle.image_outline.proofs.SoundingLaws.{sounding-none, sounding-more, sounding-same, silent, silent-bits}
-use Rattle.image_outline.proofs.count_sounding.Statement.{statement}
-use Rattle.image_outline.proofs.count_sounding.Tie as tie
+use Rattle.sounding.specs.Sounding.{sounding}
+use Rattle.sounding.proofs.SoundingLaws.{sounding-none, sounding-more, sounding-same, silent, silent-bits}
+use Rattle.sounding.proofs.count_sounding.Statement.{statement}
+use Rattle.sounding.proofs.count_sounding.Tie as tie
 
 abbrev Inv-loop : tie.InvT-loop
 Inv-loop lines n₀ i₀ n i = (i ≤ length lines) × (n ≡ sounding (drop i lines)) × (n + i ≤ length lines)

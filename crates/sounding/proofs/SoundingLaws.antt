@@ -10,7 +10,7 @@ use lib.ListN.{length, drop, getD, replicate}
 use lib.Seq.{drop-length, drop-cons}
 use mir.Syntax.{w16}
 use mir.Val.{SFits, ofZ}
-use Rattle.image_outline.specs.Outline.{sounding}
+use Rattle.sounding.specs.Sounding.{sounding}
 
 pub sounding-none : (xs : List ℤ) → 0 ≡ sounding (drop (length xs) xs)
 unfolding sounding

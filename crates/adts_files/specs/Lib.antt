@@ -1,0 +1,2 @@
+pub mod InnerWindow
+pub mod InnerRows

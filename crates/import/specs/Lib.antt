@@ -1,0 +1,2 @@
+pub mod InnerHeading
+pub mod InnerGathering

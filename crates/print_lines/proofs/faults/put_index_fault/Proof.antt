@@ -1,0 +1,15 @@
+-- The form is the definition's, and fits.
+-- Assumes nothing.
+use Rattle.print_lines.specs.InnerFrames.{indexFault}
+use borrow.Author.Needs.{needs}
+use Rattle.print_lines.proofs.faults.put_index_fault.Statement.{statement}
+use Rattle.print_lines.proofs.faults.put_index_fault.Tie as tie
+
+returns : tie.Need-returns
+unfolding indexFault
+returns c = c .before .before .put-line .ensures
+
+pub put-index-fault-spec : {M : Type 1} → statement M
+put-index-fault-spec =
+    tie.close
+    (tie.spec (λ c. search needs) (λ c. search needs) (λ c κs. search needs) (λ c. search needs) returns)
