@@ -2,13 +2,10 @@
 ghost use mathlib.Core.Path.{_≡_};
 ghost use Prim.Native.Nat.{_<_, _≤_, _^_};
 ghost use lib.ListN.{length};
-ghost use mathlib.Core.Bool.{_&&_};
-ghost use lib.Dec.{leb};
 ghost use Rattle.bits.specs.Packed.{bytesFor};
 ghost use Rattle.bits.specs.Payload.{whole};
 ghost use Rattle.channel.specs.Stream.{stream};
-ghost use Rattle.channel.specs.Promise.{readingOf, linesAfter, factorsAfter, booksAfter};
-ghost use Rattle.channel.specs.Promise.{refusal};
+ghost use Rattle.channel.specs.Promise.{refusal, readingOf, linesAfter, factorsAfter, booksAfter};
 ghost use Rattle.adts.specs.Frame.{frameHeader};
 ghost use Rattle.adts.specs.Wrapping.{frameLength};
 ghost use Rattle.adts.specs.Promise.{framed, outputsFit, fitted, unwrapped, wrappedOf, wrappedBytes};
