@@ -1,19 +1,10 @@
 /* dump: a tag image on standard input, read by the functions for C and printed in full, as the program dump does. */
 #include <stdio.h>
 
-#include "oarcradler.h"
+#include "printed.h"
 
 static const char *const kinds[4] = { "iid", "icc", "ipd", "opd" };
-static uint8_t image[65536];
-
-/* A word and some bytes as numbers. */
-static void print_bytes(const char *word, const uint8_t *bytes, size_t count)
-{
-    printf("%s", word);
-    for (size_t k = 0; k < count; k++)
-        printf(" %u", (unsigned)bytes[k]);
-    printf("\n");
-}
+static struct image image;
 
 /* 34 indices. */
 static void print_indices(const uint8_t *indices)
@@ -26,30 +17,17 @@ static void print_indices(const uint8_t *indices)
 /* A channel stream that was read. */
 static void print_channel(uint32_t k, const int16_t *lines, const uint8_t *factors, const uint8_t *books, const uint8_t *answer)
 {
-    size_t groups = answer[OARCRADLER_CHANNEL_GROUP_COUNT], used = groups * answer[OARCRADLER_CHANNEL_MAX_SFB];
-    unsigned set = 0;
-    for (int line = 0; line < OARCRADLER_LINES; line++)
-        set += lines[line] != 0;
-    printf("%u channel gain %u lines %u bits %u\n", (unsigned)k, (unsigned)answer[OARCRADLER_CHANNEL_GAIN], set,
+    printf("%u channel gain %u lines %u bits %u\n", (unsigned)k, (unsigned)answer[OARCRADLER_CHANNEL_GAIN], count_sounding(lines),
         (unsigned)oarcradler_word(answer + OARCRADLER_CHANNEL_BITS));
-    printf("  window %u shape %u max_sfb %u", (unsigned)answer[OARCRADLER_CHANNEL_SEQUENCE], (unsigned)answer[OARCRADLER_CHANNEL_SHAPE],
-        (unsigned)answer[OARCRADLER_CHANNEL_MAX_SFB]);
-    print_bytes(" groups", answer + OARCRADLER_CHANNEL_GROUPS, groups);
-    print_bytes("  books", books, used);
-    print_bytes("  factors", factors, used);
-    printf("  values");
-    for (int line = 0; line < OARCRADLER_LINES; line++)
-        if (lines[line] != 0)
-            printf(" %d:%d", line, lines[line]);
-    printf("\n");
+    print_rows(lines, factors, books, answer);
 }
 
 /* A channel stream, read or refused. */
-static void dump_channel(uint32_t k, size_t size, uint32_t start, uint32_t end, uint32_t index)
+static void dump_channel(uint32_t k, uint32_t start, uint32_t end)
 {
     static int16_t lines[OARCRADLER_LINES];
     static uint8_t factors[OARCRADLER_FACTORS], books[OARCRADLER_BOOKS], answer[OARCRADLER_CHANNEL];
-    uint32_t number = oarcradler_read_channel(image, size, start, end, index, lines, OARCRADLER_LINES, factors, sizeof factors, books,
+    uint32_t number = oarcradler_read_channel(image.bytes, image.size, start, end, image.index, lines, OARCRADLER_LINES, factors, sizeof factors, books,
         sizeof books, answer, sizeof answer);
     if (number != 0)
         printf("%u channel refused %u\n", (unsigned)k, (unsigned)number);
@@ -134,10 +112,10 @@ static void print_state(const uint8_t *state)
 }
 
 /* A stereo payload, read or refused, and the state after it. */
-static void dump_stereo(uint32_t k, size_t size, uint32_t start, uint32_t end, uint8_t *state)
+static void dump_stereo(uint32_t k, uint32_t start, uint32_t end, uint8_t *state)
 {
     static uint8_t answer[OARCRADLER_STEREO];
-    uint32_t number = oarcradler_read_stereo(state, OARCRADLER_STATE, image, size, start, end, answer, sizeof answer);
+    uint32_t number = oarcradler_read_stereo(state, OARCRADLER_STATE, image.bytes, image.size, start, end, answer, sizeof answer);
     if (number != 0) {
         printf("%u stereo refused %u\n", (unsigned)k, (unsigned)number);
     } else {
@@ -156,24 +134,20 @@ static void dump_stereo(uint32_t k, size_t size, uint32_t start, uint32_t end, u
 /* An image, payload by payload. */
 int main(void)
 {
-    uint8_t header[OARCRADLER_HEADER], part[OARCRADLER_PART], state[OARCRADLER_STATE];
-    size_t size = fread(image, 1, sizeof image, stdin);
-    uint32_t number = oarcradler_read_header(image, size, header, sizeof header);
-    if (number != 0) {
-        printf("image refused %u\n", (unsigned)number);
+    uint8_t part[OARCRADLER_PART], state[OARCRADLER_STATE];
+    if (!read_image(&image))
         return 0;
-    }
-    uint32_t count = oarcradler_word(header + OARCRADLER_HEADER_COUNT), index = oarcradler_word(header + OARCRADLER_HEADER_INDEX);
-    printf("payloads %u\n", (unsigned)count);
+    printf("payloads %u\n", (unsigned)image.count);
     if (oarcradler_fresh_state(state, sizeof state) != 0)
         return 1;
-    for (uint32_t k = 0; k < count; k++) {
-        if (oarcradler_find_part(image, size, k, part, sizeof part) != 0)
+    for (uint32_t k = 0; k < image.count; k++) {
+        if (oarcradler_find_part(image.bytes, image.size, k, part, sizeof part) != 0)
             return 1;
+        uint32_t start = oarcradler_word(part + OARCRADLER_PART_START), end = oarcradler_word(part + OARCRADLER_PART_END);
         if (k % 2 == 0)
-            dump_channel(k, size, oarcradler_word(part), oarcradler_word(part + 4), index);
+            dump_channel(k, start, end);
         else
-            dump_stereo(k, size, oarcradler_word(part), oarcradler_word(part + 4), state);
+            dump_stereo(k, start, end, state);
     }
     return 0;
 }

@@ -2,20 +2,11 @@
  * does. */
 #include <stdio.h>
 
-#include "oarcradler.h"
+#include "printed.h"
 
 enum { MOST_FILE = 1 << 22 };
 
 static uint8_t file[MOST_FILE];
-
-/* A word and some bytes as numbers. */
-static void print_bytes(const char *word, const uint8_t *bytes, size_t count)
-{
-    printf("%s", word);
-    for (size_t k = 0; k < count; k++)
-        printf(" %u", (unsigned)bytes[k]);
-    printf("\n");
-}
 
 /* A word and some bytes as hexadecimal digits. */
 static void print_hex(const char *word, const uint8_t *bytes, size_t count)
@@ -29,29 +20,10 @@ static void print_hex(const char *word, const uint8_t *bytes, size_t count)
 /* The line of a frame that was read. */
 static void print_line(unsigned k, size_t start, const int16_t *lines, const uint8_t *answer)
 {
-    unsigned set = 0;
-    for (int line = 0; line < OARCRADLER_LINES; line++)
-        set += lines[line] != 0;
     printf("%u frame at %lu length %u index %u ", k, (unsigned long)start, (unsigned)oarcradler_word(answer + OARCRADLER_FRAME_LENGTH),
         (unsigned)answer[OARCRADLER_FRAME_INDEX]);
-    printf("channel gain %u lines %u bits %u\n", (unsigned)answer[OARCRADLER_CHANNEL_GAIN], set,
+    printf("channel gain %u lines %u bits %u\n", (unsigned)answer[OARCRADLER_CHANNEL_GAIN], count_sounding(lines),
         (unsigned)oarcradler_word(answer + OARCRADLER_CHANNEL_BITS));
-}
-
-/* All other numbers of a frame that was read. */
-static void print_numbers(const int16_t *lines, const uint8_t *factors, const uint8_t *books, const uint8_t *answer)
-{
-    size_t groups = answer[OARCRADLER_CHANNEL_GROUP_COUNT], used = groups * answer[OARCRADLER_CHANNEL_MAX_SFB];
-    printf("  window %u shape %u max_sfb %u", (unsigned)answer[OARCRADLER_CHANNEL_SEQUENCE], (unsigned)answer[OARCRADLER_CHANNEL_SHAPE],
-        (unsigned)answer[OARCRADLER_CHANNEL_MAX_SFB]);
-    print_bytes(" groups", answer + OARCRADLER_CHANNEL_GROUPS, groups);
-    print_bytes("  books", books, used);
-    print_bytes("  factors", factors, used);
-    printf("  values");
-    for (int line = 0; line < OARCRADLER_LINES; line++)
-        if (lines[line] != 0)
-            printf(" %d:%d", line, lines[line]);
-    printf("\n");
 }
 
 /* The stream of a frame that was read, and the frame that wraps it; the room for either is just what is promised to be enough. */
@@ -89,7 +61,7 @@ static uint32_t print_frame(unsigned k, size_t size, size_t start)
         sizeof answer);
     if (number == 0) {
         print_line(k, start, lines, answer);
-        print_numbers(lines, factors, books, answer);
+        print_rows(lines, factors, books, answer);
         print_stream(size, start);
         return oarcradler_word(answer + OARCRADLER_FRAME_LENGTH);
     }

@@ -35,6 +35,10 @@ use Rattle.promises.proofs.Refusals.{stream-told, refused-answered, cha
 not-refused : {A : Type 0} {B : Type 0} {a : A} {m n p : ℕ} → got a m ≡ refused n p → B
 not-refused e = never (sym e)
 
+-- the same refusal has the same number
+is-told : {A : Type 0} {m n p q : ℕ} → isRefusal m ≡ true → _≡_ {A = Answer A} (refused m p) (refused n q) → isRefusal n ≡ true
+is-told {m = m} {n = n} o e = let z : m ≡ n = cc in subst (λ (k : ℕ). isRefusal k ≡ true) z o
+
 -- the laws of Numbered, at the table
 abbrev Told : {A : Type 0} → Reader A → Type 0
 Told r = Numbered isRefusal r
@@ -86,7 +90,7 @@ ended-told {A} a = record { law = λ s at end n p e. go at end n p (leb (end - a
   where
     go : (at end n p : ℕ) (b : Bool) → pick b (got a at) (refused 12 at) ≡ refused n p → isRefusal n ≡ true
     go at end n p true e = not-refused e
-    go at end n p false e = let z : 12 ≡ n = cc in subst (λ (k : ℕ). isRefusal k ≡ true) z refl
+    go at end n p false e = is-told refl e
 
 block-told : (index : ℕ) → Told (rawBlock index)
 unfolding rawBlock
@@ -101,7 +105,7 @@ judged-told there (got h next) f n p e = go (leb 7 (h .length) && leb (h .length
   where
     go : (a : Bool) → pick a (got h 56) (refused 52 0) ≡ refused n p → isRefusal n ≡ true
     go true e = not-refused e
-    go false e = let z : 52 ≡ n = cc in subst (λ (k : ℕ). isRefusal k ≡ true) z refl
+    go false e = is-told refl e
 
 frame-header-told : (bytes : List ℕ) (n p : ℕ) → frameHeader bytes ≡ refused n p → isRefusal n ≡ true
 unfolding frameHeader wholeHeader
@@ -116,19 +120,17 @@ header-refusals file start room n p e = go (leb start (length file)) room e
   where
     go : (a b : Bool) → pick a (pick b (frameHeader (drop start file)) (refused 2 0)) (refused 1 0) ≡ refused n p → isRefusal n ≡ true
     go true true e = frame-header-told (drop start file) n p e
-    go true false e = let z : 2 ≡ n = cc in subst (λ (k : ℕ). isRefusal k ≡ true) z refl
-    go false b e = let z : 1 ≡ n = cc in subst (λ (k : ℕ). isRefusal k ≡ true) z refl
+    go true false e = is-told refl e
+    go false b e = is-told refl e
 
 stream-refusals : (file : List ℕ) (start : ℕ) (h : Answer Header) → ((n p : ℕ) → h ≡ refused n p → isRefusal n ≡ true) → (n p : ℕ)
     → streamAt file start h ≡ refused n p → isRefusal n ≡ true
-stream-refusals file start (refused m q) f n p e = let z : m ≡ n = cc in subst (λ (j : ℕ). isRefusal j ≡ true) z (f m q refl)
+stream-refusals file start (refused m q) f n p e = is-told (f m q refl) e
 stream-refusals file start (got h next) f n p e = go (rawBlock (h .index) (drop start file) 56 (8 * h .length)) refl e
   where
     go : (x : Answer Block) → rawBlock (h .index) (drop start file) 56 (8 * h .length) ≡ x → streamIn x ≡ refused n p → isRefusal n ≡ true
     go (got b m) q e = not-refused e
-    go (refused m k) q e =
-        let z : m ≡ n = cc in
-        subst (λ (j : ℕ). isRefusal j ≡ true) z (block-told (h .index) .law (drop start file) 56 (8 * h .length) m k q)
+    go (refused m k) q e = is-told (block-told (h .index) .law (drop start file) 56 (8 * h .length) m k q) e
 
 pub frame-refusals : (file : List ℕ) (start : ℕ) (room : Bool) (n p : ℕ) → streamAt file start (headerAt file start room) ≡ refused n p
     → isRefusal n ≡ true
@@ -142,7 +144,7 @@ fitted-told size room (got x bits) f n p e = go (leb (size bits) room) e
   where
     go : (a : Bool) → pick a (got x bits) (refused 2 0) ≡ refused n p → isRefusal n ≡ true
     go true e = not-refused e
-    go false e = let z : 2 ≡ n = cc in subst (λ (k : ℕ). isRefusal k ≡ true) z refl
+    go false e = is-told refl e
 
 pub unwrap-refusals : (file : List ℕ) (start : ℕ) (fit : Bool) (room n p : ℕ)
     → fitted bytesFor room (streamAt file start (headerAt file start fit)) ≡ refused n p → isRefusal n ≡ true
@@ -188,8 +190,8 @@ wrap-call-answered buf start end index out room = wrapped-answered _ (by-tests (
         → pick (eqb (pick a (pick b 0 2) 1) 0) (wrappable buf start end index out) (refused (pick a (pick b 0 2) 1) 0) ≡ refused n p
         → isRefusal n ≡ true
     by-tests true true n p e = wrap-refusals buf start end index out n p e
-    by-tests true false n p e = let z : 2 ≡ n = cc in subst (λ (k : ℕ). isRefusal k ≡ true) z refl
-    by-tests false b n p e = let z : 1 ≡ n = cc in subst (λ (k : ℕ). isRefusal k ≡ true) z refl
+    by-tests true false n p e = is-told refl e
+    by-tests false b n p e = is-told refl e
 
 -- and one that is refused leaves what was lent
 pub unwrap-untouched : (bytes : List ℕ) (x : Answer Stream) → readingOf x .number ≢ 0 → (old : List ℕ) → unwrapped bytes x old ≡ old

@@ -16,7 +16,7 @@ use Rattle.c_writer.specs.WriteStereo.{WriteStereoPromise}
 use Rattle.image_outline.specs.Outline.{OutlinePromise}
 
 -- two values that both are a third are equal
-same : {A : Type 0} {x y : A} (z : A) → x ≡ z → y ≡ z → x ≡ y
+pub same : {A : Type 0} {x y : A} (z : A) → x ≡ z → y ≡ z → x ≡ y
 same z p q = p ∙ sym q
 
 -- a number, and one lent buffer

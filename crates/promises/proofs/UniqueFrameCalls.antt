@@ -2,16 +2,13 @@
 -- afterwards.
 -- Assumes nothing.
 use Prim.Native.Nat.{ℕ}
-use mathlib.Core.Path.{_≡_, sym, _∙_}
+use mathlib.Core.Path.{_≡_}
 use mathlib.Core.List.{List}
 use lib.IntN.{ℤ}
 use Rattle.c_adts.specs.ReadFrame.{ReadFramePromise}
 use Rattle.c_adts.specs.UnwrapFrame.{UnwrapFramePromise}
 use Rattle.c_adts.specs.WrapStream.{WrapStreamPromise}
-
--- two values that both are a third are equal
-same : {A : Type 0} {x y : A} (z : A) → x ≡ z → y ≡ z → x ≡ y
-same z p q = p ∙ sym q
+use Rattle.promises.proofs.UniqueCalls.{same}
 
 -- the reader: the number, the three outputs and the answer
 pub one-frame-call : (file : List ℕ) (start : ℕ) (lines : List ℤ) (factors books answer : List ℕ) (r r′ : ℕ) (l l′ : List ℤ)
