@@ -14,7 +14,7 @@ use Rattle.bits.specs.Reader.{got}
 use Rattle.bits.specs.Payload.{whole}
 use Rattle.bits.proofs.PayloadLaws.{whole-got}
 use Rattle.channel.specs.Stream.{Stream, stream}
-use Rattle.channel.proofs.StreamMost.{stream-most}
+use Rattle.channel.proofs.StreamNear.{stream-near}
 use Rattle.adts.specs.Promise.{outputsFit}
 
 -- outputs that fit are long enough
@@ -34,4 +34,4 @@ rest-is file start = take-all (length file - start) (drop start file) (omega (ar
 
 -- a stream that is accepted is short: its frame's length fits 13 bits
 pub wrapped-short : (index : ℕ) (s : List ℕ) (x : Stream) (bits : ℕ) → whole (stream index) s ≡ got x bits → bits ≤ 38000
-wrapped-short index s x bits e = stream-most index s 0 (8 * length s) bits x (whole-got (stream index) s bits x e .0)
+wrapped-short index s x bits e = omega (arith, stream-near index .law s 0 (8 * length s) bits x (whole-got (stream index) s bits x e .0))

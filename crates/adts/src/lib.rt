@@ -1,6 +1,6 @@
 // ADTS files: a frame read, a frame unwrapped, a channel stream wrapped.
 ghost use mathlib.Core.Path.{_≡_};
-ghost use Prim.Native.Nat.{_<_, _≤_, _^_};
+ghost use Prim.Native.Nat.{_≤_};
 ghost use lib.ListN.{length};
 ghost use Rattle.bits.specs.Packed.{bytesFor};
 ghost use Rattle.bits.specs.Payload.{whole};
@@ -176,7 +176,6 @@ fn unwrappable(number: u8) -> Wrapped
 
 // How many bits the channel stream in a slice used.
 fn bits_used(s: &[u8], index: u8) -> Ended
-    requires { ⌜ length (now s) < 2 ^ 32 ⌝ }
     ensures { λ r. ⌜ Used r (whole (stream index) (now (s .entry))) ⌝ }
 {
     let mut books = [0u8; 120];
@@ -188,7 +187,6 @@ fn bits_used(s: &[u8], index: u8) -> Ended
 
 // The channel stream in a slice, wrapped at the front of a lent buffer where it is accepted and its frame fits.
 fn wrap_slice(s: &[u8], index: u8, out: &mut [u8]) -> Wrapped
-    requires { ⌜ length (now s) < 2 ^ 32 ⌝ }
     ensures { λ r. ⌜ r ≡ wrappedOf (fitted frameLength (length (now (out .entry))) (whole (stream index) (now (s .entry)))) ⌝ }
     ensures { λ r. ⌜ now (out .exit) ≡ wrappedBytes index (now (s .entry))
         (fitted frameLength (length (now (out .entry))) (whole (stream index) (now (s .entry)))) (now (out .entry)) ⌝ }
@@ -209,14 +207,12 @@ fn wrap_slice(s: &[u8], index: u8, out: &mut [u8]) -> Wrapped
 
 // The channel stream in the bytes from start to end of a buffer, for a sampling index, wrapped as one frame at the front of a lent
 // buffer where it is accepted and its frame fits.
-pub fn wrap(buf: &[u8], start: u32, end: u32, index: u8, out: &mut [u8]) -> Wrapped
+pub fn wrap(buf: &[u8], start: usize, end: usize, index: u8, out: &mut [u8]) -> Wrapped
     ensures { λ r. ⌜ WrapPromise (now (buf .entry)) start end index (now (out .entry)) r (now (out .exit)) ⌝ }
 {
-    let first = start as usize;
-    let last = end as usize;
-    let number = channel::channel_call_refusal(buf.len(), first, last, index, 1024, 120, 120);
+    let number = channel::channel_call_refusal(buf.len(), start, end, index, 1024, 120, 120);
     if number != 0 {
         return unwrappable(number);
     }
-    wrap_slice(&buf[first..last], index, out)
+    wrap_slice(&buf[start..end], index, out)
 }

@@ -18,7 +18,7 @@ use Rattle.bits.proofs.Moves.{Alike}
 use Rattle.bits.proofs.PayloadLaws.{whole-got, whole-is}
 use Rattle.channel.specs.Stream.{Stream, stream}
 use Rattle.channel.proofs.StreamMoves.{stream-moves}
-use Rattle.channel.proofs.StreamMost.{stream-most}
+use Rattle.channel.proofs.StreamNear.{stream-near}
 use Rattle.adts.specs.Block.{element, singleChannel, rawBlock}
 use Rattle.adts.specs.Frame.{streamIn}
 use Rattle.adts.specs.Cut.{eachBit, cutOut}
@@ -79,7 +79,7 @@ block-there index s end n x id tag there last left =
 module _ (index : ℕ) (bytes : List ℕ) (n : ℕ) (x : Stream) (e : whole (stream index) bytes ≡ got x n) where
   -- it is short, so that its frame's length fits 13 bits
   pub short : n ≤ 38000
-  short = stream-most index bytes 0 (8 * length bytes) n x (whole-got (stream index) bytes n x e .0)
+  short = omega (arith, stream-near index .law bytes 0 (8 * length bytes) n x (whole-got (stream index) bytes n x e .0))
 
   module _ (small : index < 16) where
     -- its bits stand in the frame from bit 63 on

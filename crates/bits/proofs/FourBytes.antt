@@ -1,12 +1,15 @@
--- Four bytes at once: what the code computes of them is the run of bits.
+-- Four bytes at once: what the code computes of them is the run of bits; and a number that is put into them is the number that they are.
 -- Assumes nothing.
 use Prim.Native.Nat.{ℕ, zero, suc, _+_, _*_, _<_, _≤_, _/_, _%_, _^_, _-_}
 use mathlib.Core.Path.{_≡_, ap, _∙_}
-use mathlib.Core.List.{List}
+use mathlib.Core.List.{List, _++_}
 use native.Mathlib.Omega.{arith}
-use lib.ListN.{getD}
+use native.Mathlib.Nat.{mod-eq-of-lt}
+use lib.ListN.{getD, length}
 use lib.Pow.{shr-shr, low, shl-exact}
+use lib.Seq.{getD-append-add}
 use Rattle.bits.specs.Bits.{bitAt, bitsFrom}
+use Rattle.bits.specs.Bytes.{byteOf, wordOf}
 use Rattle.bits.proofs.BitLaws.{bitsFrom-lt, bitsFrom-split, bitsFrom-prefix}
 
 bit-in : (s : List ℕ) (i k : ℕ) → k < 8 → bitAt s (8 * i + k) ≡ getD s i 0 / 2 ^ (7 - k) % 2
@@ -63,3 +66,24 @@ word-run s at n {a} {b} {c} {d} h p q r t =
     omega (arith, four-bytes s (at / 8) (omega arith) (omega arith) (omega arith) (omega arith)) in
     let e : 8 * (at / 8) + at % 8 ≡ at = omega arith in
     rw (one-shl 64 n (omega arith), w) (run-in s (at / 8) (at % 8) n (omega arith) ∙ ap (λ (x : ℕ). bitsFrom s x n) e)
+
+joined : (x : ℕ) → x < 4294967296 → ((byteOf (x / 16777216) * 256 + byteOf (x / 65536)) * 256 + byteOf (x / 256)) * 256 + byteOf x ≡ x
+joined x h =
+    let b : x / 65536 ≡ x / 256 / 256 = omega arith in
+    let a : x / 16777216 ≡ x / 256 / 256 / 256 = omega arith in
+    let first : x / 256 / 256 / 256 < 256 = rw (← a) (omega arith) in
+    let more : (q : ℕ) → q / 256 * 256 + byteOf q ≡ q = λ q. omega arith in
+    rw (a, b, mod-eq-of-lt first, more (x / 256 / 256), more (x / 256), more x)
+
+-- the word of a number, in the midst of bytes, is the number
+pub word-back : (pre rest : List ℕ) (x : ℕ) → x < 4294967296 → bitsFrom (pre ++ (wordOf x ++ rest)) (8 * length pre) 32 ≡ x
+unfolding wordOf
+word-back pre rest x h =
+    let s = pre ++ (wordOf x ++ rest) in
+    let b₀ : getD s (length pre) 0 ≡ byteOf (x / 16777216) =
+    ap (λ (i : ℕ). getD s i 0) (let q : length pre ≡ length pre + 0 = omega arith in q) ∙ getD-append-add pre (wordOf x ++ rest) 0 0 in
+    let b₁ = getD-append-add pre (wordOf x ++ rest) 1 0 in
+    let b₂ = getD-append-add pre (wordOf x ++ rest) 2 0 in
+    let b₃ = getD-append-add pre (wordOf x ++ rest) 3 0 in
+    four-bytes s (length pre) (rw b₀ (omega arith)) (rw b₁ (omega arith)) (rw b₂ (omega arith)) (rw b₃ (omega arith))
+    ∙ rw (b₀, b₁, b₂, b₃) (joined x h)

@@ -24,4 +24,3 @@ pub mod Numbered
 pub mod Gives
 pub mod SamplingLaws
 pub mod Moves
-pub mod MostBits

@@ -1,6 +1,6 @@
 // Bits of a byte slice, most significant first: fields read, and pieces of bits put.
 ghost use mathlib.Core.Path.{_≡_};
-ghost use Prim.Native.Nat.{_*_, _-_, _<_, _≤_};
+ghost use Prim.Native.Nat.{_*_, _-_, _<_, _≤_, min};
 ghost use lib.ListN.{length, getD};
 ghost use Rattle.bits.specs.Bits.{bitsFrom};
 ghost use lib.Dec.{leb};
@@ -106,4 +106,14 @@ pub fn remaining(at: usize, end: usize) -> usize
         return 0;
     }
     end - at
+}
+
+// How many bytes are looked at, where no more than so many can count.
+pub fn looked_at(size: usize, most: usize) -> usize
+    ensures { λ r. ⌜ r ≡ min size most ⌝ }
+{
+    if size < most {
+        return size;
+    }
+    most
 }

@@ -88,8 +88,8 @@ fn put_length(answer: &mut [u8], size: usize)
 #[no_mangle]
 pub extern "C" fn oarcradler_wrap_stream(
     buf: &[u8],
-    start: u32,
-    end: u32,
+    start: usize,
+    end: usize,
     index: u32,
     out: &mut [u8],
     answer: &mut [u8],
@@ -97,7 +97,7 @@ pub extern "C" fn oarcradler_wrap_stream(
     ensures { λ r. ⌜ WrapStreamPromise (now (buf .entry)) start end index (now (out .entry)) (now (answer .entry))
         r (now (out .exit)) (now (answer .exit)) ⌝ }
 {
-    let number = call_refusal(buf.len(), start as usize, end as usize, 4, answer.len());
+    let number = call_refusal(buf.len(), start, end, 4, answer.len());
     if number != 0 {
         return number;
     }

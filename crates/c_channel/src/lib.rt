@@ -46,8 +46,8 @@ pub fn put_reading(answer: &mut [u8], r: Reading)
 #[no_mangle]
 pub extern "C" fn oarcradler_read_channel(
     buf: &[u8],
-    start: u32,
-    end: u32,
+    start: usize,
+    end: usize,
     index: u32,
     lines: &mut [i16],
     factors: &mut [u8],
@@ -58,7 +58,7 @@ pub extern "C" fn oarcradler_read_channel(
         (now (lines .entry)) (now (factors .entry)) (now (books .entry)) (now (answer .entry))
         r (now (lines .exit)) (now (factors .exit)) (now (books .exit)) (now (answer .exit)) ⌝ }
 {
-    let number = call_refusal(buf.len(), start as usize, end as usize, 17, answer.len());
+    let number = call_refusal(buf.len(), start, end, 17, answer.len());
     if number != 0 {
         return number;
     }

@@ -1,6 +1,6 @@
 -- The maps of the layout undo each other: what is put into bytes and fits them is what the bytes stand for.
 -- Assumes nothing.
-use Prim.Native.Nat.{ℕ, zero, suc, _+_, _*_, _/_, _<_}
+use Prim.Native.Nat.{ℕ, zero, suc, _+_, _*_, _<_}
 use mathlib.Core.Path.{_≡_, refl, sym, ap, _∙_}
 use mathlib.Core.List.{List, [], _∷_, _++_, map, append-assoc}
 use mathlib.Core.Bool.{Bool, true, false}
@@ -15,7 +15,7 @@ use mir.Val.{ofZ, toZ, SFits}
 use mir.ValLaws.{toZ-ofZ}
 use Rattle.bits.specs.Bytes.{byteOf, flagByte, wordOf}
 use Rattle.bits.specs.Bits.{bitsFrom}
-use Rattle.bits.proofs.FourBytes.{four-bytes}
+use Rattle.bits.proofs.FourBytes.{word-back}
 use Rattle.bits.proofs.Spelt.{Every}
 use Rattle.stereo_indices.specs.Record.{zeros}
 use Rattle.stereo_indices.specs.Rows.{noRow}
@@ -314,18 +314,7 @@ module _ (bits : ℕ) (c : Contents) (rest : List ℕ) (f : ContentsFit c) where
       let r = ap frameAt in-envelopes ∙ frame-back bits c (rowsBytes allRows ++ rest) (f .frame) in
       λ j. record { header = h j; frame = r j; iid = iid-back j; icc = icc-back j; extension = extension-back j }
 
--- four bytes make their number again
-word-back : (x : ℕ) → x < 4294967296
-    → ((byteOf (x / 16777216) * 256 + byteOf (x / 65536)) * 256 + byteOf (x / 256)) * 256 + byteOf x ≡ x
-word-back x h =
-    let b : x / 65536 ≡ x / 256 / 256 = omega arith in
-    let a : x / 16777216 ≡ x / 256 / 256 / 256 = omega arith in
-    let first : x / 256 / 256 / 256 < 256 = rw (← a) (omega arith) in
-    let joined : (q : ℕ) → q / 256 * 256 + byteOf q ≡ q = λ q. omega arith in
-    rw (a, b, mod-eq-of-lt first, joined (x / 256 / 256), joined (x / 256), joined x)
-
 -- the word of the bits, as the number of its 32 bits
 pub bits-back : (bits : ℕ) (c : Contents) (rest : List ℕ) → bits < 4294967296 → bitsFrom (answerBytes bits c ++ rest) 0 32 ≡ bits
 unfolding answerBytes answerHead wordOf
-bits-back bits c rest h =
-    four-bytes (answerBytes bits c ++ rest) 0 (omega arith) (omega arith) (omega arith) (omega arith) ∙ word-back bits h
+bits-back bits c rest h = word-back [] _ bits h

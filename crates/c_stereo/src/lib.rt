@@ -49,21 +49,19 @@ fn stereo_call_refusal(state: &[u8], size: usize, start: usize, end: usize, room
 pub extern "C" fn oarcradler_read_stereo(
     state: &mut [u8],
     buf: &[u8],
-    start: u32,
-    end: u32,
+    start: usize,
+    end: usize,
     answer: &mut [u8],
 ) -> u32
     ensures { λ r. ⌜ ReadStereoPromise (now (state .entry)) (now (buf .entry)) start end (now (answer .entry))
         r (now (state .exit)) (now (answer .exit)) ⌝ }
 {
-    let first = start as usize;
-    let last = end as usize;
-    let number = stereo_call_refusal(state, buf.len(), first, last, answer.len());
+    let number = stereo_call_refusal(state, buf.len(), start, end, answer.len());
     if number != 0 {
         return number;
     }
     let before = states::state_at(state);
-    let r = stereo_reader::read_bytes(before, &buf[first..last]);
+    let r = stereo_reader::read_bytes(before, &buf[start..end]);
     if r.number != 0 {
         state[5] = 0;
         return r.number as u32;

@@ -12,36 +12,38 @@ use Rattle.c_layout.specs.StateBytes.{stateBytes, stateAt, soundBytes}
 use Rattle.c_layout.specs.ContentsBytes.{contentsAt}
 use Rattle.bits.specs.Calls.{answered}
 
--- 4; then 40 for bytes too few to stand for contents; 0 where all is well
-abbrev pub writeCallRefusal : List ℕ → ℕ → ℕ
-writeCallRefusal s size = pick (soundBytes s) (pick (leb 582 size) 0 40) 4
+-- 2 for an answer that does not fit; 4; then 40 for bytes too few to stand for contents; 0 where all is well
+abbrev pub writeCallRefusal : List ℕ → ℕ → ℕ → ℕ
+writeCallRefusal s size room = pick (leb 4 room) (pick (soundBytes s) (pick (leb 582 size) 0 40) 4) 2
 
 -- the writer's own answer
-abbrev pub stereoWriting : List ℕ → List ℕ → ℕ → Written
-stereoWriting s contents room = writing (stateAt s) (contentsAt contents) room
+abbrev pub stereoWriting : List ℕ → List ℕ → List ℕ → Written
+stereoWriting s contents out = writing (stateAt s) (contentsAt contents) (length out)
 
 -- the number that comes back
-unfoldable pub writeNumber : List ℕ → List ℕ → ℕ → ℕ
-writeNumber s contents room =
-    pick (eqb (writeCallRefusal s (length contents)) 0) (stereoWriting s contents room .number) (writeCallRefusal s (length contents))
+unfoldable pub writeNumber : List ℕ → List ℕ → List ℕ → ℕ → ℕ
+writeNumber s contents out room =
+    pick (eqb (writeCallRefusal s (length contents) room) 0) (stereoWriting s contents out .number)
+    (writeCallRefusal s (length contents) room)
 
 -- the state afterwards
-unfoldable pub writeStateAfter : List ℕ → List ℕ → ℕ → List ℕ
-writeStateAfter s contents room = answered (writeNumber s contents room) (stateBytes (stereoWriting s contents room .state)) s
-
--- the contents afterwards: the bits that were written stand in the first four bytes
-unfoldable pub writeContentsAfter : List ℕ → List ℕ → ℕ → List ℕ
-writeContentsAfter s contents room = answered (writeNumber s contents room) (wordOf (stereoWriting s contents room .bits)) contents
+unfoldable pub writeStateAfter : List ℕ → List ℕ → List ℕ → ℕ → List ℕ
+writeStateAfter s contents out room = answered (writeNumber s contents out room) (stateBytes (stereoWriting s contents out .state)) s
 
 -- the output afterwards
-unfoldable pub writeOutputAfter : List ℕ → List ℕ → List ℕ → List ℕ
-writeOutputAfter s contents out =
-    pick (eqb (writeCallRefusal s (length contents)) 0)
-    (writtenOver (stereoWriting s contents (length out)) (stateAt s) (contentsAt contents) out) out
+unfoldable pub writeOutputAfter : List ℕ → List ℕ → List ℕ → ℕ → List ℕ
+writeOutputAfter s contents out room =
+    pick (eqb (writeCallRefusal s (length contents) room) 0)
+    (writtenOver (stereoWriting s contents out) (stateAt s) (contentsAt contents) out) out
 
--- everything that a call gives: the number that comes back, and the state, the contents and the output afterwards
-abbrev pub WriteStereoPromise : List ℕ → List ℕ → List ℕ → ℕ → List ℕ → List ℕ → List ℕ → Type 0
-WriteStereoPromise s contents out r s′ contents′ out′ =
-    (r ≡ writeNumber s contents (length out))
-    × ((s′ ≡ writeStateAfter s contents (length out))
-    × ((contents′ ≡ writeContentsAfter s contents (length out)) × (out′ ≡ writeOutputAfter s contents out)))
+-- the answer afterwards: a word, the bits that were written
+unfoldable pub writeAnswerAfter : List ℕ → List ℕ → List ℕ → List ℕ → List ℕ
+writeAnswerAfter s contents out answer =
+    answered (writeNumber s contents out (length answer)) (wordOf (stereoWriting s contents out .bits)) answer
+
+-- everything that a call gives: the number that comes back, and the state, the output and the answer afterwards
+abbrev pub WriteStereoPromise : List ℕ → List ℕ → List ℕ → List ℕ → ℕ → List ℕ → List ℕ → List ℕ → Type 0
+WriteStereoPromise s contents out answer r s′ out′ answer′ =
+    (r ≡ writeNumber s contents out (length answer))
+    × ((s′ ≡ writeStateAfter s contents out (length answer))
+    × ((out′ ≡ writeOutputAfter s contents out (length answer)) × (answer′ ≡ writeAnswerAfter s contents out answer)))

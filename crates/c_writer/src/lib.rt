@@ -7,9 +7,12 @@ use c_layout::states;
 use stereo_writer::writing;
 
 // What is judged before contents are written: a refusal's number, or 0.
-fn write_call_refusal(state: &[u8], size: usize) -> u32
-    ensures { λ r. ⌜ r ≡ writeCallRefusal (now (state .entry)) size ⌝ }
+fn write_call_refusal(state: &[u8], size: usize, room: usize) -> u32
+    ensures { λ r. ⌜ r ≡ writeCallRefusal (now (state .entry)) size room ⌝ }
 {
+    if room < 4 {
+        return 2;
+    }
     if !states::is_sound_at(state) {
         return 4;
     }
@@ -19,17 +22,18 @@ fn write_call_refusal(state: &[u8], size: usize) -> u32
     0
 }
 
-// Contents are written as a stereo payload to the front of a lent output: a lent state is moved on, and the bits stand before the contents.
+// Contents are written as a stereo payload to the front of a lent output: a lent state is moved on, and a lent answer gets the bits.
 #[no_mangle]
 pub extern "C" fn oarcradler_write_stereo(
     state: &mut [u8],
-    contents: &mut [u8],
+    contents: &[u8],
     out: &mut [u8],
+    answer: &mut [u8],
 ) -> u32
-    ensures { λ r. ⌜ WriteStereoPromise (now (state .entry)) (now (contents .entry)) (now (out .entry))
-        r (now (state .exit)) (now (contents .exit)) (now (out .exit)) ⌝ }
+    ensures { λ r. ⌜ WriteStereoPromise (now (state .entry)) (now (contents .entry)) (now (out .entry)) (now (answer .entry))
+        r (now (state .exit)) (now (out .exit)) (now (answer .exit)) ⌝ }
 {
-    let number = write_call_refusal(state, contents.len());
+    let number = write_call_refusal(state, contents.len(), answer.len());
     if number != 0 {
         return number;
     }
@@ -41,6 +45,6 @@ pub extern "C" fn oarcradler_write_stereo(
     }
     states::put_state(state, w.state);
     let bits = bytes::word_of(w.bits);
-    bytes::put(contents, 0, &bits);
+    bytes::put(answer, 0, &bits);
     0
 }

@@ -4,4 +4,4 @@ pub mod PromiseLaws
 pub mod Demands
 pub mod All
 pub mod StreamMoves
-pub mod StreamMost
+pub mod StreamNear

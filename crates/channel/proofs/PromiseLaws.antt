@@ -1,15 +1,15 @@
 -- What the code of a call cites: what is judged before any bit, in the order of the numbers.
 -- Assumes nothing.
-use Prim.Native.Nat.{ℕ, zero, suc, _*_, _-_, _<_, _≤_, _^_}
+use Prim.Native.Nat.{ℕ, _≤_}
 use mathlib.Core.Path.{_≡_, refl}
 use mathlib.Core.Bool.{Bool, true, false, _&&_}
 use native.Mathlib.Omega.{arith}
-use borrow.Author.Tests.{lt-leb, leb-true, ne-eqb}
+use borrow.Author.Tests.{leb-true, ne-eqb}
 use lib.Dec.{leb}
-use mathlib.Core.List.{List, [], _∷_}
-use lib.ListN.{length, take, drop}
-use Rattle.bits.specs.Reader.{got, refused, Reader, pick}
-use Rattle.bits.specs.Payload.{range, ended, whole}
+use mathlib.Core.List.{List}
+use lib.ListN.{length}
+use Rattle.bits.specs.Reader.{refused, pick}
+use Rattle.bits.specs.Payload.{range, whole}
 use Rattle.channel.specs.Stream.{stream}
 use Rattle.channel.specs.Promise.{channelCallRefusal, channel}
 use Rattle.bits.specs.Sampling.{knownIndex}
@@ -42,18 +42,3 @@ module _ (buf : List ℕ) (start end index lines factors books : ℕ) where
       → channel buf start end index lines factors books ≡ whole (stream index) (range buf start end)
   unfolding channel
   channel-is e = rw e
-
--- a reading that leaves more than 7 bits is 12
-pub whole-long : {A : Type 0} (r : Reader A) (s : List ℕ) (next : ℕ) (a : A) → r s 0 (8 * length s) ≡ got a next → 7 < 8 * length s - next
-    → whole r s ≡ refused 12 next
-unfolding whole ended
-whole-long r s next a e h = rw (e, lt-leb _ _ h)
-
--- a range is no longer than the numbers that bound it
-take-short : (n : ℕ) (xs : List ℕ) → length (take n xs) ≤ n
-take-short zero xs = omega arith
-take-short (suc n) [] = omega arith
-take-short (suc n) (x ∷ xs) = let h = take-short n xs in omega arith
-
-pub range-short : (s : List ℕ) (start end : ℕ) → end < 2 ^ 32 → length (range s start end) < 2 ^ 32
-range-short s start end h = omega (arith, take-short (end - start) (drop start s))

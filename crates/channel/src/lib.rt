@@ -1,7 +1,7 @@
 // One AAC channel stream: read whole from a range of a lent buffer.
 ghost use mathlib.Core.Path.{_≡_};
 ghost use mathlib.Core.List.{_++_};
-ghost use Prim.Native.Nat.{_≤_, _<_, _^_};
+ghost use Prim.Native.Nat.{_≤_};
 ghost use lib.ListN.{length, drop};
 ghost use Rattle.bits.specs.Payload.{whole};
 ghost use Rattle.channel.specs.Stream.{stream};
@@ -122,7 +122,7 @@ fn read_slice(
     factors: &mut [u8],
     books: &mut [u8],
 ) -> Reading
-    requires { ⌜ (length (now s) < 2 ^ 32) × (1024 ≤ length (now lines)) × (120 ≤ length (now factors)) × (120 ≤ length (now books)) ⌝ }
+    requires { ⌜ (1024 ≤ length (now lines)) × (120 ≤ length (now factors)) × (120 ≤ length (now books)) ⌝ }
     ensures { λ r. ⌜ r ≡ readingOf (whole (stream index) (now (s .entry))) ⌝ }
     ensures { λ r. ⌜ now (lines .exit) ≡ linesAfter (whole (stream index) (now (s .entry))) (now (lines .entry)) ⌝ }
     ensures { λ r. ⌜ now (factors .exit) ≡ factorsAfter (whole (stream index) (now (s .entry))) (now (factors .entry)) ⌝ }
@@ -148,8 +148,8 @@ fn read_slice(
 // the front of the lent outputs where it is accepted.
 pub fn read_channel(
     buf: &[u8],
-    start: u32,
-    end: u32,
+    start: usize,
+    end: usize,
     index: u8,
     lines: &mut [i16],
     factors: &mut [u8],
@@ -158,12 +158,10 @@ pub fn read_channel(
     ensures { λ r. ⌜ ReadChannelPromise (now (buf .entry)) start end index (now (lines .entry)) (now (factors .entry)) (now (books .entry))
         r (now (lines .exit)) (now (factors .exit)) (now (books .exit)) ⌝ }
 {
-    let first = start as usize;
-    let last = end as usize;
     let number = channel_call_refusal(
         buf.len(),
-        first,
-        last,
+        start,
+        end,
         index,
         lines.len(),
         factors.len(),
@@ -172,5 +170,5 @@ pub fn read_channel(
     if number != 0 {
         return refused(number);
     }
-    read_slice(&buf[first..last], index, lines, factors, books)
+    read_slice(&buf[start..end], index, lines, factors, books)
 }

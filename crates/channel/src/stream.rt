@@ -1,6 +1,6 @@
 // A whole channel stream, read into lent arrays of zeros.
 ghost use mathlib.Core.Path.{_≡_};
-ghost use Prim.Native.Nat.{_*_, _≤_, _<_, _^_};
+ghost use Prim.Native.Nat.{_*_, _≤_};
 ghost use lib.IntN.{pos};
 ghost use lib.ListN.{length, replicate};
 ghost use Rattle.bits.specs.InnerAnswers.{fieldAnswer, endedAnswer};
@@ -370,7 +370,8 @@ pub fn read_from(
     )
 }
 
-// A whole payload, into arrays of zeros: at most 7 bits are left after it.
+// A whole payload, into arrays of zeros: at most 7 bits are left after it. No stream goes further than 4,750 bytes, so that one byte
+// more is enough to tell.
 pub fn read_payload(
     s: &[u8],
     index: u8,
@@ -378,14 +379,13 @@ pub fn read_payload(
     factors: &mut [u8; 120],
     lines: &mut [i16; 1024],
 ) -> ReadHead
-    requires { ⌜ (length (now s) < 2 ^ 32)
-        × (now books ≡ replicate 120 0)
+    requires { ⌜ (now books ≡ replicate 120 0)
         × (now factors ≡ replicate 120 0)
         × (now lines ≡ replicate 1024 (pos 0)) ⌝ }
     ensures { λ r. ⌜ HoldsStream (r .ended) (r .head) (now (books .exit)) (now (factors .exit)) (now (lines .exit))
         (whole (stream index) (now (s .entry))) ⌝ }
 {
-    let end = 8 * s.len();
+    let end = 8 * bits::looked_at(s.len(), 4751);
     let read = read_from(s, 0, end, index, books, factors, lines);
     let stream_ended = read.ended;
     let Ended::At(next) = stream_ended else {

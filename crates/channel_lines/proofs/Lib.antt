@@ -6,4 +6,4 @@ pub mod SpectrumLaws
 pub mod SpectrumLawful
 pub mod SpectrumMoves
 pub mod GroupCounts
-pub mod SpectrumMost
+pub mod SpectrumNear

@@ -8,4 +8,4 @@ pub mod LineLaws
 pub mod SideLawful
 pub mod KnownBooks
 pub mod SideMoves
-pub mod SideMost
+pub mod SideNear

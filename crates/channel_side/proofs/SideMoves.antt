@@ -14,7 +14,7 @@ use Rattle.bits.proofs.Moves.{Moved, Moves, still-moved, give-moved, give-moves
 use Rattle.bits.proofs.Moves.{pick-moved, bind-moved, then-moved, bind-moves, counted-moved, counted-moves, while-moves}
 use Rattle.tables.specs.Tables.{wordOf}
 use Rattle.tables.specs.GeneratedNames.{scaleFactor}
-use Rattle.tables.proofs.TableBits.{moves-at}
+use Rattle.tables.proofs.TableMoves.{moves-at}
 use Rattle.channel_side.specs.Window.{Window, isShort, windowSequence, maxSfbOf, groupingOf, windowBands, window}
 use Rattle.channel_side.specs.Sections.{Length, increment, sectionLength, sectionBook, Covered, section, groupSections}
 use Rattle.channel_side.specs.Sections.{groupBooks, sections}

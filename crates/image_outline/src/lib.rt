@@ -36,13 +36,12 @@ fn no_bands() -> [u8; 120]
 
 // The row of a channel stream that fills a part.
 fn channel_row(part: &[u8], index: u8) -> Row
-    requires { ⌜ length (now part) ≤ 65535 ⌝ }
     ensures { λ r. ⌜ r .number ∷ r .first ∷ r .second ∷ r .bits ∷ [] ≡ channelRow (channelIn index (now (part .entry))) ⌝ }
 {
     let mut lines = no_lines();
     let mut factors = no_bands();
     let mut books = no_bands();
-    let end = part.len() as u32;
+    let end = part.len();
     let r = channel::read_channel(part, 0, end, index, &mut lines, &mut factors, &mut books);
     if r.number != 0 {
         return Row {
@@ -95,7 +94,6 @@ fn stereo_turn(part: &[u8], state: State) -> Turn
 
 // The turn of the k-th payload, an even one a channel stream and an odd one a stereo payload.
 fn turn_of(part: &[u8], k: usize, index: u8, state: State) -> Turn
-    requires { ⌜ length (now part) ≤ 65535 ⌝ }
     ensures { λ r. ⌜ (r .row .number ∷ r .row .first ∷ r .row .second ∷ r .row .bits ∷ [] ≡ rowFrom state index k (now (part .entry)))
         × (r .state ≡ stateFrom state k (now (part .entry))) ⌝ }
 {
@@ -108,7 +106,7 @@ fn turn_of(part: &[u8], k: usize, index: u8, state: State) -> Turn
 
 // The rows of an image whose header has this count and index.
 fn fill_rows(image: &[u8], count: usize, index: u8, rows: &mut [usize])
-    requires { ⌜ (length (now image) ≤ 65535) × (count ≤ 1024) × (4 * count ≤ length (now rows))
+    requires { ⌜ (count ≤ 1024) × (4 * count ≤ length (now rows))
         × (headerOf (now image) ≡ record { number = 0; count = count; index = index }) ⌝ }
     ensures { λ _. ⌜ now (rows .exit) ≡ over (now (rows .entry)) 0 (rowsOf (now (image .entry)) count) ⌝ }
 {

@@ -5,7 +5,6 @@ use mathlib.Core.Path.{_≡_, refl, sym, ap, _∙_}
 use mathlib.Core.List.{List, [], _∷_, _++_, append-nil}
 use mathlib.Core.Bool.{Bool, true, false, _&&_, _||_}
 use native.Mathlib.Omega.{arith}
-use native.Mathlib.Decide.{decLe}
 use borrow.Author.Tests.{le-leb, eqb-true, eq-eqb}
 use lib.Dec.{eqb}
 use lib.ListN.{length, getD, drop, length-set, length-append, length-drop}
@@ -22,7 +21,6 @@ use Rattle.stereo.specs.Carried.{carried}
 use Rattle.stereo.specs.Restart.{restart}
 use Rattle.stereo.specs.declared.State.{State}
 use Rattle.stereo.specs.declared.Contents.{Contents}
-use Rattle.stereo.proofs.PayloadLaws.{payload-lawful}
 use Rattle.stereo.proofs.PayloadNear.{payload-near}
 use Rattle.stereo_laws.proofs.SoundLaws.{carried-sound}
 use Rattle.stereo_laws.proofs.PayloadNumbers.{whole-not-0}
@@ -83,13 +81,9 @@ module _ (st : State) (h : sound st ≡ true) (f : StateFits st) where
       go true = f
       go false = fresh-fits
 
-  -- a payload uses at most 8,192 bits, or as many as there are where they are fewer
+  -- a payload uses at most 8,192 bits
   few-bits : (s : List ℕ) (c : Contents) (n : ℕ) → payload-reader (from st) s 0 (8 * length s) ≡ got c n → n < 4294967296
-  few-bits s c n e =
-      elim (decLe 8192 (8 * length s)) [
-        | yes d ↦ let w = payload-near (from st) .reach s 0 (8 * length s) n c d e in omega arith
-        | no d ↦ let w = payload-lawful (from st) .within s 0 (8 * length s) n c (omega arith) e in omega arith
-      ]
+  few-bits s c n e = omega (arith, payload-near (from st) .law s 0 (8 * length s) n c e)
 
   well : (s : List ℕ) → readBytes st s .number ≡ 0 → Well (readBytes st s)
   unfolding readBytes taken

@@ -11,6 +11,8 @@ pub mod Demands
 pub mod Unique
 pub mod UniqueCalls
 pub mod FitLaws
+pub mod AnswersBack
+pub mod FrameBack
 pub mod OverBytes
 pub mod CallRuns
 pub mod Bench

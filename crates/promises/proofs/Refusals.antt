@@ -190,13 +190,14 @@ fresh-answered s = picked self (leb 146 (length s)) _ _ refl refl
 pub missing-answered : (s : List ℕ) → isAnswered (missingNumber s) ≡ true
 missing-answered s = picked self (soundBytes s) _ _ refl refl
 
-pub write-answered : (s contents : List ℕ) (room : ℕ) → isAnswered (writeNumber s contents room) ≡ true
+pub write-answered : (s contents out : List ℕ) (room : ℕ) → isAnswered (writeNumber s contents out room) ≡ true
 unfolding writeNumber
-write-answered s contents room =
-    let call = writeCallRefusal s (length contents) in
+write-answered s contents out room =
+    let call = writeCallRefusal s (length contents) room in
     let few = picked self (leb 582 (length contents)) 0 40 refl refl in
-    picked self (eqb call 0) (stereoWriting s contents room .number) call (writing-answered (stateAt s) (contentsAt contents) room)
-    (picked self (soundBytes s) (pick (leb 582 (length contents)) 0 40) 4 few refl)
+    let unsound = picked self (soundBytes s) (pick (leb 582 (length contents)) 0 40) 4 few refl in
+    picked self (eqb call 0) (stereoWriting s contents out .number) call
+    (writing-answered (stateAt s) (contentsAt contents) (length out)) (picked self (leb 4 room) _ 2 unsound refl)
 
 pub image-answered : (image : List ℕ) (room : ℕ) → isAnswered (imageNumber image room) ≡ true
 unfolding imageNumber

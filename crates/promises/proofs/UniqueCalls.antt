@@ -13,6 +13,7 @@ use Rattle.c_image.specs.ImageCalls.{ReadHeaderPromise, FindPartPromise}
 use Rattle.c_stereo.specs.StateCalls.{FreshStatePromise, ReportMissingPromise}
 use Rattle.c_stereo.specs.ReadStereo.{ReadStereoPromise}
 use Rattle.c_writer.specs.WriteStereo.{WriteStereoPromise}
+use Rattle.c_version.specs.Version.{version, VersionPromise}
 use Rattle.image_outline.specs.Outline.{OutlinePromise}
 
 -- two values that both are a third are equal
@@ -46,10 +47,11 @@ pub one-stereo : (state buf : List ℕ) (start end : ℕ) (answer : List ℕ) (r
 one-stereo state buf start end answer r r′ s s′ a a′ p q =
     (same _ (p .0) (q .0), same _ (p .1 .0) (q .1 .0), same _ (p .1 .1) (q .1 .1))
 
--- the stereo writer: the number, the state, the contents and the output
-pub one-written : (state contents out : List ℕ) (r r′ : ℕ) (s s′ c c′ o o′ : List ℕ) → WriteStereoPromise state contents out r s c o
-    → WriteStereoPromise state contents out r′ s′ c′ o′ → (r ≡ r′) × (s ≡ s′) × (c ≡ c′) × (o ≡ o′)
-one-written state contents out r r′ s s′ c c′ o o′ p q = (
+-- the stereo writer: the number, the state, the output and the answer
+pub one-written : (state contents out answer : List ℕ) (r r′ : ℕ) (s s′ o o′ a a′ : List ℕ)
+    → WriteStereoPromise state contents out answer r s o a → WriteStereoPromise state contents out answer r′ s′ o′ a′
+    → (r ≡ r′) × (s ≡ s′) × (o ≡ o′) × (a ≡ a′)
+one-written state contents out answer r r′ s s′ o o′ a a′ p q = (
   same _ (p .0) (q .0),
   same _ (p .1 .0) (q .1 .0),
   same _ (p .1 .1 .0) (q .1 .1 .0),
@@ -86,3 +88,7 @@ module _ (buf : List ℕ) (start end index : ℕ) (lines : List ℤ) (factors bo
 pub one-outline : (image rows : List ℕ) (r r′ : Header) (after after′ : List ℕ) → OutlinePromise image rows r after
     → OutlinePromise image rows r′ after′ → (r ≡ r′) × (after ≡ after′)
 one-outline image rows r r′ after after′ p q = (same _ (p .0) (q .0), same _ (p .1) (q .1))
+
+-- the version
+pub one-version : (r r′ : ℕ) → VersionPromise r → VersionPromise r′ → r ≡ r′
+one-version r r′ = same version

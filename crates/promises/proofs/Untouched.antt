@@ -40,7 +40,7 @@ use Rattle.bits.specs.Packed.{bytesFor}
 use Rattle.bits.specs.Lists.{oneOf}
 use Rattle.c_layout.specs.StateBytes.{stateAt, soundBytes}
 use Rattle.c_layout.specs.ContentsBytes.{contentsAt}
-use Rattle.c_writer.specs.WriteStereo.{writeCallRefusal, stereoWriting, writeNumber, writeStateAfter, writeContentsAfter, writeOutputAfter}
+use Rattle.c_writer.specs.WriteStereo.{writeCallRefusal, stereoWriting, writeNumber, writeStateAfter, writeOutputAfter, writeAnswerAfter}
 use Rattle.c_image.specs.ImageCalls.{imageNumber, imageAnswerAfter, partNumber, partAnswerAfter}
 use Rattle.image_outline.specs.Outline.{outlineOf, rowsAfter}
 use Rattle.c_channel.specs.ReadChannel.{channelAnswerAfter}
@@ -190,10 +190,10 @@ module _ (s : List ℕ) where
   pub missing-untouched : missingNumber s ≢ 0 → missingAfter s ≡ s
   missing-untouched = by-sound (soundBytes s)
 
-module _ (s contents out : List ℕ) (h : writeNumber s contents (length out) ≢ 0) where
-  pub write-untouched : (writeStateAfter s contents (length out) ≡ s) × (writeContentsAfter s contents (length out) ≡ contents)
-  unfolding writeStateAfter writeContentsAfter
-  write-untouched = (unanswered _ h _ s, unanswered _ h _ contents)
+module _ (s contents out answer : List ℕ) (h : writeNumber s contents out (length answer) ≢ 0) where
+  pub write-untouched : (writeStateAfter s contents out (length answer) ≡ s) × (writeAnswerAfter s contents out answer ≡ answer)
+  unfolding writeStateAfter writeAnswerAfter
+  write-untouched = (unanswered _ h _ s, unanswered _ h _ answer)
 
   by-call : (b : Bool) (w : Written) (n : ℕ) → pick b (w .number) n ≢ 0
       → pick b (writtenOver w (stateAt s) (contentsAt contents) out) out ≡ out
@@ -201,9 +201,9 @@ module _ (s contents out : List ℕ) (h : writeNumber s contents (length out) �
   by-call true w n h = rw (ne-eqb _ 0 h)
   by-call false w n h = refl
 
-  pub output-untouched : writeOutputAfter s contents out ≡ out
+  pub output-untouched : writeOutputAfter s contents out (length answer) ≡ out
   unfolding writeOutputAfter writeNumber
-  output-untouched = by-call (eqb (writeCallRefusal s (length contents)) 0) (stereoWriting s contents (length out)) _ h
+  output-untouched = by-call (eqb (writeCallRefusal s (length contents) (length answer)) 0) (stereoWriting s contents out) _ h
 
 module _ (image answer : List ℕ) where
   pub header-untouched : imageNumber image (length answer) ≢ 0 → imageAnswerAfter image answer ≡ answer

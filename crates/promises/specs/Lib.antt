@@ -1,5 +1,6 @@
 pub mod Run
 pub mod Allowed
+pub mod AnswerAt
 pub mod CallRun
 pub mod Bench
 pub mod Refusals

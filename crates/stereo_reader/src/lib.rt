@@ -1,7 +1,6 @@
 // The stereo reader: a payload in step or out of step, and a payload reported missing.
 ghost use mathlib.Core.Path.{_≡_};
 ghost use mathlib.Core.Bool.{_||_};
-ghost use Prim.Native.Nat.{min};
 ghost use Rattle.stereo.specs.State.{lost};
 ghost use Rattle.stereo.specs.Restart.{restart};
 ghost use Rattle.stereo_reader.specs.Reading.{from, refusal, taken, readBytes, ReadPromise, MissingPromise};
@@ -91,23 +90,14 @@ fn taken(state: State, contents: Contents, bits: usize) -> Reading
     }
 }
 
-// How many bytes are looked at: no payload has more than 1024.
-fn looked_at(size: usize) -> usize
-    ensures { λ r. ⌜ r ≡ min size 1025 ⌝ }
-{
-    if size < 1025 {
-        return size;
-    }
-    1025
-}
-
-// A payload that fills a slice: what it holds, how many bits it used, and the next state.
+// A payload that fills a slice: what it holds, how many bits it used, and the next state. No payload goes further than 1,024 bytes, so that
+// one byte more is enough to tell.
 pub fn read_bytes(state: State, s: &[u8]) -> Reading
     ensures { λ r. ⌜ r ≡ readBytes state (now (s .entry)) ⌝ }
 {
     let codes = tables::codes();
     let lens = tables::lens();
-    let end = 8 * looked_at(s.len());
+    let end = 8 * bits::looked_at(s.len(), 1025);
     let before = read_from(state);
     let read = payloads::read_payload(s, end, before, &codes, &lens);
     let ended = read.ended;

@@ -2,4 +2,4 @@ pub mod RunLaws
 pub mod Rules
 pub mod PlaceLaws
 pub mod WordNear
-pub mod TableBits
+pub mod TableMoves

@@ -1,4 +1,4 @@
--- A word of a table is found in 20 bits: where that many are there, the end does not count.
+-- A word of a table takes 20 bits at most, and is found in them: where that many are there, the end does not count.
 -- Assumes nothing.
 use Prim.Native.Nat.{ℕ, _+_, _-_, _<_, _≤_, _^_}
 use mathlib.Core.Path.{_≡_, refl, ap}
@@ -13,10 +13,13 @@ use Rattle.bits.proofs.Bools.{and-left, and-right}
 use Rattle.words.specs.Words.{fits, cutOff, scan, word}
 use Rattle.words.specs.Table.{sized}
 use Rattle.words.proofs.CompleteLaws.{complete-parts}
+use Rattle.words.proofs.WordLaws.{word-fit}
 use Rattle.tables.specs.Tables.{codesOf, lensOf, wordOf}
 use Rattle.tables.specs.GeneratedNames.{tableAt}
-use Rattle.tables.proofs.Rules.{ruled-at, lawful-at}
-use Rattle.bits.proofs.NearLaws.{Near, lawful-near}
+use Rattle.tables.proofs.RunLaws.{run-usable}
+use Rattle.tables.proofs.PlaceLaws.{place-in}
+use Rattle.tables.proofs.Rules.{ruled-at}
+use Rattle.bits.proofs.NearLaws.{Near}
 
 scan-same : (m : ℕ) (cs ls : List ℕ) (i : ℕ) (short : Bool) (s : List ℕ) (at end end′ : ℕ) → T (sized m cs ls) → at + m ≤ end
     → at + m ≤ end′
@@ -37,7 +40,12 @@ scan-same m (c ∷ cs) (l ∷ ls) i short s at end end′ t h k =
 pub word-near : (i : ℕ) → i < 22 → Near 20 (wordOf (tableAt i))
 unfolding word
 word-near i h =
-    let c = complete-parts (codesOf (tableAt i)) (lensOf (tableAt i)) (ruled-at i h) in
-    lawful-near 20 (wordOf (tableAt i)) (lawful-at i)
-    (λ s at end end′ a b. scan-same _ (codesOf (tableAt i)) (lensOf (tableAt i)) 0 false s at end end′ (c .size)
-    (omega (arith, c .short)) (omega (arith, c .short)))
+    let c = complete-parts (codesOf (tableAt i)) (lensOf (tableAt i)) (ruled-at i h) in record {
+      law = λ s at end next k e.
+          let w = word-fit (codesOf (tableAt i)) (lensOf (tableAt i)) s at end k next e in
+          let l = run-usable (tableAt i .first) (tableAt i .count) (place-in i) .narrow k (w .1) in
+          omega (arith, w .3);
+      same = λ s at end end′ a b.
+          scan-same _ (codesOf (tableAt i)) (lensOf (tableAt i)) 0 false s at end end′ (c .size)
+          (omega (arith, c .short)) (omega (arith, c .short));
+    }

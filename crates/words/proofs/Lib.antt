@@ -9,4 +9,4 @@ pub mod EscapeLaws
 pub mod Examples
 pub mod WordNumbered
 pub mod WordMoves
-pub mod EscapeMost
+pub mod EscapeNear

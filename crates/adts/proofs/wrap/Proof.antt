@@ -1,10 +1,9 @@
 -- What the channel's reader judges before any bit, then the slice of the range.
 use Prim.Native.Nat.{_≤_}
 use mathlib.Core.Path.{refl, sym, _∙_}
-use native.Mathlib.Omega.{arith}
 use lib.ListN.{length}
 use borrow.Author.Needs.{needs}
-use Rattle.channel.proofs.PromiseLaws.{refusal-well, channel-not, channel-is, range-short}
+use Rattle.channel.proofs.PromiseLaws.{refusal-well, channel-not, channel-is}
 use Rattle.adts.specs.Promise.{wrappable}
 use Rattle.adts.proofs.wrap.Statement.{statement}
 use Rattle.adts.proofs.wrap.Tie as tie
@@ -35,11 +34,6 @@ part-wrap-slice-start c = let w = well c in search needs
 part-wrap-slice-end : tie.Need-part-wrap-slice-end
 part-wrap-slice-end c = let w = well c in search needs
 
-wrap-slice-requires : tie.Need-wrap-slice-requires
-wrap-slice-requires c κs =
-    let x = entry (c .before .before) .args in
-    range-short (x .buf .now) (x .start) (x .end) (omega arith)
-
 returns-2 : tie.Need-returns-2
 unfolding wrappable
 returns-2 c =
@@ -53,4 +47,4 @@ pub wrap-spec : {M : Type 1} → statement M
 wrap-spec =
     tie.close
     (tie.spec (λ c κs. search needs) (λ c κs. search needs) returns sub-wrap-slice part-wrap-slice-start part-wrap-slice-end
-    wrap-slice-requires (λ c. search needs) returns-2)
+    (λ c κs. search needs) (λ c. search needs) returns-2)

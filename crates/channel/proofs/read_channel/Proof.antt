@@ -1,9 +1,8 @@
 -- What is judged before any bit, then the slice of the range.
 use Prim.Native.Nat.{_≤_}
 use mathlib.Core.Path.{refl, sym, _∙_}
-use native.Mathlib.Omega.{arith}
 use lib.ListN.{length}
-use Rattle.channel.proofs.PromiseLaws.{refusal-well, channel-not, channel-is, range-short}
+use Rattle.channel.proofs.PromiseLaws.{refusal-well, channel-not, channel-is}
 use borrow.Author.Needs.{needs}
 use Rattle.channel.proofs.read_channel.Statement.{statement}
 use Rattle.channel.proofs.read_channel.Tie as tie
@@ -36,10 +35,8 @@ part-read-slice-end c = let w = well c in search needs
 
 read-slice-requires : tie.Need-read-slice-requires
 read-slice-requires c κs =
-    let judged = c .before .before .before .before in
-    let w = well judged in
-    let x = entry judged .args in
-    (range-short (x .buf .now) (x .start) (x .end) (omega arith), w .2, w .3, w .4)
+    let w = well (c .before .before .before .before) in
+    (w .2, w .3, w .4)
 
 returns-2 : tie.Need-returns-2
 returns-2 c =

@@ -43,5 +43,5 @@ pub channel-row-spec : {M : Type 1} → statement M
 channel-row-spec =
     tie.close
     (tie.spec (λ c κs. search needs) (λ c κs. search needs) (λ c κs. search needs) (λ c. search needs)
-    (λ c. search needs) (λ c. search needs) (λ c. search needs) (λ c κs. search needs) (λ c κs. search needs)
+    (λ c. search needs) (λ c. search needs) (λ c κs. search needs) (λ c κs. search needs)
     returns (λ c κs. search needs) (λ c. search needs) (λ c κs. search needs) returns-2)

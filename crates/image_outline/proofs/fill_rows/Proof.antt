@@ -33,18 +33,18 @@ loop-again c =
     let l = part .before .before .loop in
     let a = part .before .before .before .before .before .before .args in
     let pre = part .before .before .before .before .before .before .pre in
-    let there = part-there (a .image .now) (a .count) (a .index) (l .k) (pre .3) (omega arith) in
+    let there = part-there (a .image .now) (a .count) (a .index) (l .k) (pre .2) (omega arith) in
     let p = part .part-of .ensures .0 ∙ there in
     let s = a .image .now in
     let state : turn .turn-of .result .state ≡ stateBefore s (l .k + 1) = turn .turn-of .ensures .1
-    ∙ rw (p, l .inv .1) (state-more s (a .count) (a .index) (l .k) (pre .3)) in
+    ∙ rw (p, l .inv .1) (state-more s (a .count) (a .index) (l .k) (pre .2)) in
     let row = rw (p, l .inv .1) at (turn .turn-of .ensures .0) in
     let t = turn .turn-of .result .row in
     let ys = t .number ∷ t .first ∷ t .second ∷ t .bits ∷ [] in
     let placed : Put (l .rows) (0 + 4 * l .k) ys 4 (put .put-row .last .0) = rw (zero-add (4 * l .k)) (put .put-row .ensures, refl) in
     let next = put-next (a .rows .now) 0 (rowsOf s (l .k)) (4 * l .k) ys 4 (l .inv .3) placed (omega arith) in
     let long = put-length (a .rows .now) 0 _ _ next (omega arith) in
-    let more = ap (λ (z : List ℕ). rowsOf s (l .k) ++ z) row ∙ rows-more s (a .count) (a .index) (l .k) (pre .3) in
+    let more = ap (λ (z : List ℕ). rowsOf s (l .k) ++ z) row ∙ rows-more s (a .count) (a .index) (l .k) (pre .2) in
     let few : l .k + 1 ≤ a .count = omega arith in
     (few, state, long, put-as (a .rows .now) 0 _ _ _ _ next more (omega arith))
 

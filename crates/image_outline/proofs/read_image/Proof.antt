@@ -60,7 +60,7 @@ fill-rows-requires c κs =
     let zero = rw h at (c .before .if3 .left) in
     let count = header-sound s zero .1 in
     let few = sound tested .few in
-    rw h (sound tested .small, omega arith, rw (← count) at (room fitting), sound-header (headerOf s) zero)
+    rw h (omega arith, rw (← count) at (room fitting), sound-header (headerOf s) zero)
 
 returns-4 : tie.Need-returns-4
 returns-4 c =

@@ -1,4 +1,4 @@
--- No payload uses more than 8,192 bits, so looking at 1,025 bytes answers what looking at all of them would (`whole-near`).
+-- No payload goes further than 1,024 bytes, so looking at one more answers what looking at all of them would.
 use Rattle.bits.proofs.Taken.{ended-is}
 use Prim.Native.Nat.{_*_, min}
 use mathlib.Core.Path.{_≡_, _∙_}

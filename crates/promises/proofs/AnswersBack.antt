@@ -1,0 +1,79 @@
+-- What a program in C takes out of the bytes of an accepted channel call's answer is what the call answers: a stream takes 38,000 bits at
+-- most, so that the word holds its number, and every other number is a byte as it is.
+-- Assumes nothing.
+use Prim.Native.Nat.{ℕ, _*_, _-_, _<_, _≤_}
+use mathlib.Core.Path.{_≡_, refl, sym, ap, _∙_}
+use mathlib.Core.List.{List, [], _++_}
+use mathlib.Core.Bool.{Bool, true, false}
+use native.Mathlib.Omega.{arith}
+use lib.Dec.{eqb}
+use lib.ListN.{length, take, drop, length-append, length-replicate}
+use lib.Seq.{take-append-seam}
+use Rattle.bits.specs.Reader.{Answer, got, refused, pick}
+use Rattle.bits.specs.Bytes.{wordOf}
+use Rattle.bits.specs.Calls.{callRefusal}
+use Rattle.bits.specs.Payload.{range}
+use Rattle.bits.proofs.FourBytes.{word-back}
+use Rattle.bits.proofs.Lawful.{never}
+use Rattle.bits.proofs.OverLaws.{over-front}
+use Rattle.bits.proofs.PayloadLaws.{whole-got}
+use Rattle.channel_lines.specs.Grouping.{inEight}
+use Rattle.channel_lines.proofs.GroupCounts.{groups-few}
+use Rattle.channel_side.specs.Window.{isShort, groups}
+use Rattle.channel.specs.declared.stream.Head.{Head}
+use Rattle.channel.specs.Stream.{Stream, stream}
+use Rattle.channel.specs.Promise.{accepted, channel, channelCallRefusal}
+use Rattle.channel.proofs.StreamNear.{stream-near}
+use Rattle.c_channel.specs.ReadChannel.{channelBytes, channelCall, channelAnswerAfter}
+use Rattle.promises.specs.AnswerAt.{readingAt}
+
+-- an accepted answer of two comes from the first
+pub first-got : {A : Type 0} (b : Bool) (x : Answer A) (n p : ℕ) {next : ℕ} {a : A} → pick b x (refused n p) ≡ got a next → x ≡ got a next
+first-got true x n p e = e
+first-got false x n p e = never e
+
+-- a stream that a call accepts takes few bits
+pub channel-few : (buf : List ℕ) (start end index lines factors books bits : ℕ) (x : Stream)
+    → channel buf start end index lines factors books ≡ got x bits → bits ≤ 38000
+unfolding channel
+channel-few buf start end index lines factors books bits x e =
+    let read = first-got (eqb (channelCallRefusal (length buf) start end index lines factors books) 0) _ _ 0 e in
+    let s = range buf start end in
+    omega (arith, stream-near index .law s 0 (8 * length s) bits x (whole-got (stream index) s bits x read .0))
+
+eight : (h : Head) → length (inEight (groups (h .window))) ≡ 8
+eight h =
+    let few = groups-few (isShort (h .window)) (h .window .grouping) in
+    length-append (groups (h .window)) _ ∙ omega (arith, length-replicate {A = ℕ} (8 - length (groups (h .window))) 0)
+
+pub reading-long : (h : Head) (bits : ℕ) → length (channelBytes (accepted h bits)) ≡ 17
+unfolding channelBytes wordOf
+reading-long h bits = let e = eight h in omega arith
+
+pub reading-back : (h : Head) (bits : ℕ) (rest : List ℕ) → bits < 4294967296
+    → readingAt (channelBytes (accepted h bits) ++ rest) ≡ accepted h bits
+unfolding channelBytes wordOf
+reading-back h bits rest l =
+    let r = accepted h bits in
+    let few : take 8 (r .groups ++ rest) ≡ r .groups = ap (λ (n : ℕ). take n (r .groups ++ rest)) (sym (eight h))
+    ∙ take-append-seam (r .groups) rest in
+    let word = word-back [] (drop 4 (channelBytes r ++ rest)) bits l in
+    λ j. record {
+      number = 0;
+      gain = r .gain;
+      sequence = r .sequence;
+      shape = r .shape;
+      «max_sfb» = r .«max_sfb»;
+      «group_count» = r .«group_count»;
+      groups = few j;
+      bits = word j;
+    }
+
+module _ (buf : List ℕ) (start end index lines factors books : ℕ) (answer : List ℕ) where
+  pub channel-back : (x : Stream) (bits : ℕ) → channelCall buf start end index lines factors books (length answer) ≡ got x bits
+      → readingAt (channelAnswerAfter (got x bits) answer) ≡ accepted (x .head) bits
+  unfolding channelCall
+  channel-back x bits e =
+      let read = first-got (eqb (callRefusal (length buf) start end 17 (length answer)) 0) _ _ 0 e in
+      let few = channel-few buf start end index lines factors books bits x read in
+      ap readingAt (over-front answer (channelBytes (accepted (x .head) bits)) _ refl) ∙ reading-back (x .head) bits _ (omega arith)
