@@ -1,7 +1,7 @@
 // What a channel payload holds, printed.
 ghost use Prim.Native.Nat.{_≤_};
 ghost use lib.ListN.{length};
-use print_lines::channels;
+use print_rows::channels;
 
 // What a channel payload holds, where it is accepted.
 pub fn print_channel(ok: bool, bytes: &[u8], index: u8) -> bool

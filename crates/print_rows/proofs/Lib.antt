@@ -1,0 +1,3 @@
+pub mod Signs
+pub mod RowLaws
+pub mod Examples
