@@ -19,7 +19,8 @@ fn put_next(line: &mut [u8], at: usize, number: usize) -> usize
 
 // The first n bytes of a slice, as numbers.
 pub fn put_bytes(line: &mut [u8], at: usize, numbers: &[u8], n: usize) -> usize
-    ensures { λ r. ⌜ lineOf (now (line .exit)) r ≡ withText (lineOf (now (line .entry)) at) (numbersText (take n (now (numbers .entry)))) ⌝ }
+    ensures { λ r. ⌜ lineOf (now (line .exit)) r
+        ≡ withText (lineOf (now (line .entry)) at) (numbersText (take n (now (numbers .entry)))) ⌝ }
 {
     let mut to = at;
     let mut i = 0;
@@ -32,7 +33,8 @@ pub fn put_bytes(line: &mut [u8], at: usize, numbers: &[u8], n: usize) -> usize
 
 // The first n numbers of a slice.
 pub fn put_numbers(line: &mut [u8], at: usize, numbers: &[u32], n: usize) -> usize
-    ensures { λ r. ⌜ lineOf (now (line .exit)) r ≡ withText (lineOf (now (line .entry)) at) (numbersText (take n (now (numbers .entry)))) ⌝ }
+    ensures { λ r. ⌜ lineOf (now (line .exit)) r
+        ≡ withText (lineOf (now (line .entry)) at) (numbersText (take n (now (numbers .entry)))) ⌝ }
 {
     let mut to = at;
     let mut i = 0;

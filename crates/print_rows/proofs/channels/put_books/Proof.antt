@@ -1,12 +1,12 @@
 -- The words, and the numbers after them, of which there are at most 120.
 -- Assumes nothing.
-use Prim.Native.Nat.{_+_, _<_}
 use native.Mathlib.Omega.{arith}
-use lib.ListN.{length, take}
+use lib.ListN.{take}
 use Rattle.print_lines.specs.InnerText.{ascii}
 use Rattle.print_rows.specs.InnerEach.{numbersText}
 use Rattle.print_rows.specs.InnerChannelRows.{bandCount, booksRow}
-use Rattle.print_rows.proofs.RowLaws.{two-held, numbers-short}
+use Rattle.print_rows.proofs.EachLaws.{numbers-short}
+use Rattle.print_rows.proofs.RowLaws.{two-held}
 use borrow.Author.Needs.{needs}
 use Rattle.print_rows.proofs.channels.put_books.Statement.{statement}
 use Rattle.print_rows.proofs.channels.put_books.Tie as tie

@@ -2,7 +2,7 @@
 -- Assumes nothing.
 use mathlib.Core.Path.{ap}
 use native.Mathlib.Omega.{arith}
-use Rattle.print_lines.specs.InnerText.{Line, lineOf, ascii, withText}
+use Rattle.print_lines.specs.InnerText.{Line, lineOf, ascii}
 use Rattle.print_lines.proofs.TextLaws.{text-most, roomy}
 use Rattle.print_rows.specs.InnerEach.{valuesText}
 use Rattle.print_rows.specs.InnerChannelRows.{valuesRow}

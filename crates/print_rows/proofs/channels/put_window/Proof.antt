@@ -8,7 +8,8 @@ use Rattle.print_lines.specs.InnerText.{ascii, line}
 use Rattle.print_lines.proofs.TextLaws.{form-short}
 use Rattle.print_rows.specs.InnerEach.{numbersText}
 use Rattle.print_rows.specs.InnerChannelRows.{windowRow}
-use Rattle.print_rows.proofs.RowLaws.{two-held, numbers-short}
+use Rattle.print_rows.proofs.EachLaws.{numbers-short}
+use Rattle.print_rows.proofs.RowLaws.{two-held}
 use borrow.Author.Needs.{needs}
 use Rattle.print_rows.proofs.channels.put_window.Statement.{statement}
 use Rattle.print_rows.proofs.channels.put_window.Tie as tie
@@ -28,7 +29,12 @@ returns c =
     let eight : 8 ≡ length (r .groups) = slice-aggregate-put-bytes (list .before .before) in
     two-held (a .line .now) (line "  window # shape # max_sfb # groups" marked) (numbersText (take (r .«group_count») (r .groups)))
     (form .put-form .ensures) (list .put-bytes .ensures)
-    (omega (arith, form-short (ascii "  window # shape # max_sfb # groups") marked, numbers-short (r .«group_count») (r .groups), entry .pre))
+    (omega (
+      arith,
+      form-short (ascii "  window # shape # max_sfb # groups") marked,
+      numbers-short (r .«group_count») (r .groups),
+      entry .pre,
+    ))
 
 pub put-window-spec : {M : Type 1} → statement M
 put-window-spec =

@@ -7,7 +7,8 @@ use Rattle.print_lines.specs.InnerText.{ascii, line}
 use Rattle.print_lines.proofs.TextLaws.{form-short}
 use Rattle.print_rows.specs.InnerFill.{fillText}
 use Rattle.print_rows.specs.InnerStereoRows.{partRow}
-use Rattle.print_rows.proofs.RowLaws.{two-held, fill-short}
+use Rattle.print_rows.proofs.FillLaws.{fill-short}
+use Rattle.print_rows.proofs.RowLaws.{two-held}
 use borrow.Author.Needs.{needs}
 use Rattle.print_rows.proofs.contents.put_part.Statement.{statement}
 use Rattle.print_rows.proofs.contents.put_part.Tie as tie

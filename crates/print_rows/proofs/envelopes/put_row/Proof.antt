@@ -4,7 +4,8 @@ use mathlib.Core.Path.{_≡_}
 use native.Mathlib.Omega.{arith}
 use lib.ListN.{length}
 use Rattle.print_rows.specs.InnerEach.{indicesText}
-use Rattle.print_rows.proofs.RowLaws.{two-held, indices-short}
+use Rattle.print_rows.proofs.EachLaws.{indices-short}
+use Rattle.print_rows.proofs.RowLaws.{two-held}
 use borrow.Author.Needs.{needs}
 use Rattle.print_rows.proofs.envelopes.put_row.Statement.{statement}
 use Rattle.print_rows.proofs.envelopes.put_row.Tie as tie

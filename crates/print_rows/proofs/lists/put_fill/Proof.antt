@@ -1,15 +1,15 @@
 -- Each turn puts the next lower bit: what is put so far and what is left make all of them.
 -- Assumes nothing.
-use Prim.Native.Nat.{_≤_, _-_, _<_, min}
-use mathlib.Core.Path.{_≡_, refl, sym, ap, _∙_}
+use Prim.Native.Nat.{_≤_, min}
+use mathlib.Core.Path.{_≡_, refl, _∙_}
 use native.Mathlib.Omega.{arith}
 use borrow.Author.Tests.{eq-eqb, ne-eqb}
 use lib.ListN.{length}
 use borrow.Author.Needs.{needs}
 use Rattle.io.specs.Digits.{digits}
-use Rattle.print_lines.specs.InnerText.{Line, lineOf, withText}
+use Rattle.print_lines.specs.InnerText.{lineOf, withText}
 use Rattle.print_rows.specs.InnerFill.{fillText}
-use Rattle.print_rows.proofs.RowLaws.{bit-next}
+use Rattle.print_rows.proofs.FillLaws.{bit-turn}
 use Rattle.print_rows.proofs.lists.put_fill.Statement.{statement}
 use Rattle.print_rows.proofs.lists.put_fill.Tie as tie
 
@@ -36,8 +36,7 @@ loop-again c =
     let value = turn .before .before .before .before .args .value in (
       omega arith,
       search needs,
-      ap (λ (x : Line). withText x (digits 2 (l .left - 1) value)) (rw (put .before .bit-of .ensures) at (put .put-byte2 .ensures))
-          ∙ sym (bit-next (lineOf (l .line) (l .to)) value (l .left) (omega arith))
+      bit-turn (lineOf (l .line) (l .to)) _ value (l .left) (omega arith) (rw (put .before .bit-of .ensures) at (put .put-byte2 .ensures))
           ∙ l .inv .2,
     )
 

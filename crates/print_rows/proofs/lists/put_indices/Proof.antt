@@ -1,23 +1,23 @@
 -- Each turn puts the next: what is put so far and what is left make all of them.
 -- Assumes nothing.
-use Prim.Native.Nat.{_≤_, _-_, _+_}
-use mathlib.Core.Path.{_≡_, refl, sym, ap, _∙_}
+use Prim.Native.Nat.{_≤_, _-_}
+use mathlib.Core.Path.{_≡_, refl, _∙_}
 use native.Mathlib.Omega.{arith}
 use lib.IntN.{pos}
-use lib.ListN.{length, drop, getD}
+use lib.ListN.{length, getD}
 use mir.Syntax.{w8}
 use mir.ValLaws.{toZ-ofZ}
 use borrow.Author.Needs.{needs}
-use Rattle.print_lines.specs.InnerText.{Line, lineOf, withText}
-use Rattle.print_rows.specs.InnerEach.{each, nextIndex}
-use Rattle.print_rows.proofs.RowLaws.{each-next, each-last}
+use Rattle.print_lines.specs.InnerText.{lineOf, withText}
+use Rattle.print_rows.specs.InnerEach.{nextIndex}
+use Rattle.print_rows.proofs.EachLaws.{indicesFrom, each-turn, each-last}
 use Rattle.print_rows.proofs.lists.put_indices.Statement.{statement}
 use Rattle.print_rows.proofs.lists.put_indices.Tie as tie
 
 abbrev Inv-loop : tie.InvT-loop
 Inv-loop line₀ at indices to₀ i₀ line to i =
     (i ≤ length indices) × (length line ≡ length line₀)
-    × (withText (lineOf line to) (each (λ place z. nextIndex z) i (drop i indices)) ≡ withText (lineOf line₀ at) (each (λ place z. nextIndex z) 0 indices))
+    × (withText (lineOf line to) (indicesFrom indices i) ≡ withText (lineOf line₀ at) (indicesFrom indices 0))
 
 abbrev μ-loop : tie.MeasureT-loop
 μ-loop line₀ at indices to₀ i₀ line to i = length indices - i
@@ -31,8 +31,7 @@ loop-again c =
     let same = toZ-ofZ w8 (getD xs (l .i) (pos 0)) (record { sfits = put .before .put-index-arg2 .given }) in (
       omega arith,
       search needs,
-      ap (λ (x : Line). withText x (each (λ place z. nextIndex z) (l .i + 1) (drop (l .i + 1) xs))) (rw same at (put .put-index .ensures))
-          ∙ sym (each-next (λ place z. nextIndex z) (lineOf (l .line) (l .to)) xs (l .i) (pos 0) (omega arith))
+      each-turn (λ place z. nextIndex z) (lineOf (l .line) (l .to)) _ xs (l .i) (pos 0) (omega arith) (rw same at (put .put-index .ensures))
           ∙ l .inv .2,
     )
 
@@ -40,7 +39,7 @@ returns : tie.Need-returns Inv-loop μ-loop
 returns c =
     let l = c .before .loop in
     let xs = c .before .before .before .args .indices .now in
-    sym (each-last (λ place z. nextIndex z) (lineOf (l .line) (l .to)) xs (l .i) (omega arith)) ∙ l .inv .2
+    each-last (λ place z. nextIndex z) (lineOf (l .line) (l .to)) xs (l .i) (omega arith) ∙ l .inv .2
 
 pub put-indices-spec : {M : Type 1} → statement M
 put-indices-spec =

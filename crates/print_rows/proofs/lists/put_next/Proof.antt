@@ -1,6 +1,5 @@
 -- A space, and the number after it.
 -- Assumes nothing.
-use mathlib.Core.List.{[], _∷_}
 use mathlib.Core.Path.{sym, _∙_}
 use borrow.Author.Needs.{needs}
 use Rattle.print_lines.specs.InnerText.{lineOf, ascii, numberText}

@@ -1,12 +1,12 @@
 -- Each turn puts the next of the first n: what is put so far and what is left make all of them.
 -- Assumes nothing.
-use Prim.Native.Nat.{_≤_, _<_, _-_, _+_}
-use mathlib.Core.Path.{_≡_, refl, sym, ap, _∙_}
+use Prim.Native.Nat.{_≤_, _<_, _-_}
+use mathlib.Core.Path.{_≡_, refl, _∙_}
 use native.Mathlib.Omega.{arith}
 use lib.ListN.{length}
 use borrow.Author.Needs.{needs}
-use Rattle.print_lines.specs.InnerText.{Line, lineOf, withText}
-use Rattle.print_rows.proofs.RowLaws.{numbersFrom, number-next, number-last}
+use Rattle.print_lines.specs.InnerText.{lineOf, withText}
+use Rattle.print_rows.proofs.EachLaws.{numbersFrom, number-turn, number-last}
 use Rattle.print_rows.proofs.lists.put_numbers.Statement.{statement}
 use Rattle.print_rows.proofs.lists.put_numbers.Tie as tie
 
@@ -31,9 +31,7 @@ loop-again c =
     let there : l .i < length (a .numbers .now) = search needs in (
       omega arith,
       search needs,
-      ap (λ (x : Line). withText x (numbersFrom (a .numbers .now) (a .n) (l .i + 1))) (put .put-next .ensures)
-          ∙ sym (number-next (lineOf (l .line) (l .to)) (a .numbers .now) (a .n) (l .i) some there)
-          ∙ l .inv .2,
+      number-turn (lineOf (l .line) (l .to)) (a .numbers .now) (a .n) (l .i) _ some there (put .put-next .ensures) ∙ l .inv .2,
     )
 
 returns : tie.Need-returns Inv-loop μ-loop
@@ -41,13 +39,13 @@ returns c =
     let l = c .before .before .loop in
     let a = c .before .before .before .before .before .args in
     let end : length (a .numbers .now) ≤ l .i = search needs in
-    sym (number-last (lineOf (l .line) (l .to)) (a .numbers .now) (a .n) (l .i) (omega arith)) ∙ l .inv .2
+    number-last (lineOf (l .line) (l .to)) (a .numbers .now) (a .n) (l .i) (omega arith) ∙ l .inv .2
 
 returns-2 : tie.Need-returns-2 Inv-loop μ-loop
 returns-2 c =
     let l = c .before .loop in
     let a = c .before .before .before .before .args in
-    sym (number-last (lineOf (l .line) (l .to)) (a .numbers .now) (a .n) (l .i) (omega arith)) ∙ l .inv .2
+    number-last (lineOf (l .line) (l .to)) (a .numbers .now) (a .n) (l .i) (omega arith) ∙ l .inv .2
 
 pub put-numbers-spec : {M : Type 1} → statement M
 put-numbers-spec =

@@ -1,12 +1,11 @@
 -- A line that is 0 has no text; else its place, and its value after it. A place below 1,024 has four digits, a value of 16 bits five.
 -- Assumes nothing.
-use Prim.Native.Nat.{_≤_, _+_}
-use mathlib.Core.Path.{_≡_, sym, ap, _∙_}
+use Prim.Native.Nat.{_≤_}
+use mathlib.Core.Path.{_≡_, ap}
 use mathlib.Core.List.{[], _∷_}
 use native.Mathlib.Omega.{arith}
 use borrow.Author.Tests.{eq-eqb, ne-eqb}
 use lib.IntN.{natAbs}
-use lib.ListN.{length}
 use lib.Signed.{natAbs-le}
 use mir.Syntax.{w16}
 use mir.ValLaws.{toZ-ofZ}
@@ -15,7 +14,8 @@ use Rattle.print_lines.specs.InnerText.{Line, lineOf, withText, line}
 use Rattle.print_lines.proofs.TextLaws.{text-most}
 use Rattle.print_rows.specs.InnerSigned.{signedText}
 use Rattle.print_rows.specs.InnerEach.{valueText}
-use Rattle.print_rows.proofs.RowLaws.{after, value-few}
+use Rattle.print_rows.proofs.EachLaws.{value-few}
+use Rattle.print_rows.proofs.RowLaws.{after}
 use Rattle.print_rows.proofs.lists.put_value.Statement.{statement}
 use Rattle.print_rows.proofs.lists.put_value.Tie as tie
 
@@ -43,7 +43,8 @@ returns-2 c =
     let text = after l (line " #:" (a .place ∷ [])) (signedText z) (form .put-form .ensures) (rw same at (put .put-signed .ensures)) in
     let some : natAbs z ≡ 0 → ⊥ = rw (size .magnitude .ensures, same) at (form .before .before .before .before .if1 .left) in
     let small : natAbs z ≤ 32768 = natAbs-le z (entry .fits .value .sfits) in
-    let whole : lineOf (put .put-signed .last .0) (put .put-signed .result) ≡ withText l (valueText (a .place) z) = rw (ne-eqb (natAbs z) 0 some) text in
+    let whole : lineOf (put .put-signed .last .0) (put .put-signed .result) ≡ withText l (valueText (a .place) z) =
+    rw (ne-eqb (natAbs z) 0 some) text in
     let most = text-most l (valueText (a .place) z) in
     let at = ap (λ (x : Line). x .at) whole in
     (whole, omega (arith, value-few (a .place) z (entry .pre) small))

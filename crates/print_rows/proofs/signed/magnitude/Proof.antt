@@ -1,7 +1,6 @@
 -- Widened to 64 bits, a number of 16 has a negation that fits.
 -- Assumes nothing.
 use Rattle.print_rows.proofs.Signs.{widened, negated, below, above, below-is, above-is}
-use borrow.Author.Needs.{needs}
 use Rattle.print_rows.proofs.signed.magnitude.Statement.{statement}
 use Rattle.print_rows.proofs.signed.magnitude.Tie as tie
 
