@@ -17,7 +17,8 @@ use Rattle.print_rows.specs.InnerSigned.{signedText}
 use Rattle.print_rows.specs.InnerEach.{each, nextNumber, nextIndex, valueText}
 use Rattle.print_rows.specs.InnerFill.{fillText}
 use Rattle.print_rows.specs.InnerChannelRows.{windowRow, booksRow, factorsRow, valuesRow}
-use Rattle.print_rows.specs.InnerStereoRows.{headerRow, frameRow, envelopeRow, iidRow, partRow, extensionRow}
+use Rattle.print_rows.specs.InnerStereoRows.{headerRow, frameRow, partRow, extensionRow}
+use Rattle.print_rows.specs.InnerEnvelopeRows.{envelopeRow, iidRow}
 use Rattle.print_rows.specs.InnerStateRows.{stateRow, recordRow, iidRecord}
 
 -- two groups, of five windows and of three, with two bands each

@@ -4,4 +4,5 @@ pub mod InnerFill
 pub mod InnerMarks
 pub mod InnerChannelRows
 pub mod InnerStereoRows
+pub mod InnerEnvelopeRows
 pub mod InnerStateRows

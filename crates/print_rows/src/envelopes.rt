@@ -7,7 +7,7 @@ ghost use Rattle.stereo_indices.specs.Rows.{noRow};
 ghost use Rattle.stereo.specs.Extension.{noPhases};
 ghost use Rattle.print_lines.specs.InnerText.{HoldsLine};
 ghost use Rattle.print_rows.specs.InnerEach.{indicesText};
-ghost use Rattle.print_rows.specs.InnerStereoRows.{envelopeRow, iidRow, iccRow, ipdRow, opdRow};
+ghost use Rattle.print_rows.specs.InnerEnvelopeRows.{envelopeRow, iidRow, iccRow, ipdRow, opdRow};
 use crate::lists;
 use crate::marks;
 use print_lines::put_line;

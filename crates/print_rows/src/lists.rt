@@ -79,7 +79,7 @@ fn put_value(line: &mut [u8], at: usize, place: usize, value: i16) -> usize
     signed::put_signed(line, to, value)
 }
 
-// The place and the value of every line that is not 0.
+// The place and the value of every line that is not 0, in at most 12 bytes a line.
 pub fn put_values(line: &mut [u8], at: usize, lines: &[i16]) -> usize
     requires { ⌜ length (now lines) ≤ 1024 ⌝ }
     ensures { λ r. ⌜ (lineOf (now (line .exit)) r ≡ withText (lineOf (now (line .entry)) at) (valuesText (now (lines .entry))))
@@ -102,8 +102,8 @@ fn bit_of(value: u32, k: usize) -> u8
     48 + ((value >> k) % 2) as u8
 }
 
-// How many bits of a number are asked for: it has 32.
-fn bits_in(count: usize) -> usize
+// A count of a number's bits, of which it has 32.
+fn bit_count(count: usize) -> usize
     ensures { λ r. ⌜ r ≡ min count 32 ⌝ }
 {
     if count < 32 {
@@ -120,7 +120,7 @@ pub fn put_fill(line: &mut [u8], at: usize, value: u32, count: usize) -> usize
         return text::put_byte(line, at, b'-');
     }
     let mut to = at;
-    let mut left = bits_in(count);
+    let mut left = bit_count(count);
     while 0 < left {
         left -= 1;
         to = text::put_byte(line, to, bit_of(value, left));

@@ -1,6 +1,6 @@
 -- Each mark is the definition's, and the form fits.
 -- Assumes nothing.
-use Rattle.print_rows.specs.InnerStereoRows.{envelopeRow}
+use Rattle.print_rows.specs.InnerEnvelopeRows.{envelopeRow}
 use borrow.Author.Needs.{needs}
 use Rattle.print_rows.proofs.envelopes.put_envelope.Statement.{statement}
 use Rattle.print_rows.proofs.envelopes.put_envelope.Tie as tie

@@ -1,6 +1,6 @@
 -- The row is the envelope's.
 -- Assumes nothing.
-use Rattle.print_rows.specs.InnerStereoRows.{iccRow}
+use Rattle.print_rows.specs.InnerEnvelopeRows.{iccRow}
 use borrow.Author.Needs.{needs}
 use Rattle.print_rows.proofs.envelopes.put_icc.Statement.{statement}
 use Rattle.print_rows.proofs.envelopes.put_icc.Tie as tie

@@ -1,6 +1,6 @@
 -- The row is the envelope's.
 -- Assumes nothing.
-use Rattle.print_rows.specs.InnerStereoRows.{iidRow}
+use Rattle.print_rows.specs.InnerEnvelopeRows.{iidRow}
 use borrow.Author.Needs.{needs}
 use Rattle.print_rows.proofs.envelopes.put_iid.Statement.{statement}
 use Rattle.print_rows.proofs.envelopes.put_iid.Tie as tie

@@ -1,6 +1,6 @@
 -- The row is the envelope's.
 -- Assumes nothing.
-use Rattle.print_rows.specs.InnerStereoRows.{ipdRow}
+use Rattle.print_rows.specs.InnerEnvelopeRows.{ipdRow}
 use borrow.Author.Needs.{needs}
 use Rattle.print_rows.proofs.envelopes.put_ipd.Statement.{statement}
 use Rattle.print_rows.proofs.envelopes.put_ipd.Tie as tie

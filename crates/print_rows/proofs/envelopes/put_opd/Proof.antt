@@ -1,6 +1,6 @@
 -- The row is the envelope's.
 -- Assumes nothing.
-use Rattle.print_rows.specs.InnerStereoRows.{opdRow}
+use Rattle.print_rows.specs.InnerEnvelopeRows.{opdRow}
 use borrow.Author.Needs.{needs}
 use Rattle.print_rows.proofs.envelopes.put_opd.Statement.{statement}
 use Rattle.print_rows.proofs.envelopes.put_opd.Tie as tie

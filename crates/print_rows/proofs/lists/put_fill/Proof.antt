@@ -26,7 +26,7 @@ unfolding fillText withText
 returns c = let put = c .before .before in rw (eq-eqb _ _ (put .before .before .if1 .taken)) (put .put-byte .ensures)
 
 loop-holds : tie.Need-loop-holds Inv-loop μ-loop
-loop-holds c = (omega (arith, c .bits-in .ensures), refl, rw (c .bits-in .ensures))
+loop-holds c = (omega (arith, c .bit-count .ensures), refl, rw (c .bit-count .ensures))
 
 loop-again : tie.Need-loop-again Inv-loop μ-loop
 loop-again c =
