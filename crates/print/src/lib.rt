@@ -21,7 +21,7 @@ struct Printed {
 
 // What the k-th payload holds, from the state before it; the state after it comes back.
 fn print_details(ok: bool, image: &[u8], k: usize, index: u8, state: State) -> Printed
-    requires { ⌜ (length (now image) ≤ 65535) × (partOf (now image) k .number ≡ 0) ⌝ }
+    requires { ⌜ partOf (now image) k .number ≡ 0 ⌝ }
     ensures { λ r. ⌜ r .state ≡ stateFrom state k (bytesOf (now (image .entry)) k) ⌝ }
 {
     let part = image::part_of(image, k);
@@ -52,7 +52,7 @@ fn print_payload(
     full: bool,
     state: State,
 ) -> Printed
-    requires { ⌜ (length (now image) ≤ 65535) × (k < 1024) × (4096 ≤ length (now rows))
+    requires { ⌜ (k < 1024) × (4096 ≤ length (now rows))
         × (partOf (now image) k .number ≡ 0) × (state ≡ printedFrom full (now image) k) ⌝ }
     ensures { λ r. ⌜ r .state ≡ printedAfter full state k (bytesOf (now (image .entry)) k) ⌝ }
 {
@@ -65,7 +65,7 @@ fn print_payload(
 
 // The payloads of an image that has this outline, in their order, up to the first line that is not written; whether all were.
 fn print_payloads(image: &[u8], count: usize, index: u8, rows: &[usize], full: bool) -> bool
-    requires { ⌜ (length (now image) ≤ 65535) × (count ≤ 1024) × (4096 ≤ length (now rows))
+    requires { ⌜ (count ≤ 1024) × (4096 ≤ length (now rows))
         × (headerOf (now image) ≡ record { number = 0; count = count; index = index }) ⌝ }
 {
     let mut state = states::fresh();
@@ -83,9 +83,7 @@ fn print_payloads(image: &[u8], count: usize, index: u8, rows: &[usize], full: b
 }
 
 // An image; the answer is whether every line was written.
-fn print_image(image: &[u8], full: bool) -> bool
-    requires { ⌜ length (now image) ≤ 65535 ⌝ }
-{
+fn print_image(image: &[u8], full: bool) -> bool {
     let mut rows = [0usize; 4096];
     let header = image_outline::read_image(image, &mut rows);
     if header.number != 0 {

@@ -2,8 +2,8 @@
 ghost use mathlib.Core.Path.{_≡_};
 ghost use Rattle.image_outline.specs.Answers.{stereoIn};
 use crate::Printed;
-use print_lines::contents;
-use print_lines::records;
+use print_rows::contents;
+use print_rows::records;
 use stereo::Contents;
 use stereo::State;
 

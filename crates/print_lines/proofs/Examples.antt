@@ -1,8 +1,8 @@
 -- The lines of the rules' listing, of a bad image, and of frames of an ADTS file, computed.
 -- Assumes nothing.
 use mathlib.Core.Path.{_≡_, refl}
-use Rattle.print_lines.specs.InnerText.{numberText, formText}
-use Rattle.print_lines.specs.InnerListing.{ascii, refusedImage, payloadCount, refusedLine, acceptedLine, payloadLine}
+use Rattle.print_lines.specs.InnerText.{ascii, numberText, formText}
+use Rattle.print_lines.specs.InnerListing.{refusedImage, payloadCount, refusedLine, acceptedLine, payloadLine}
 use Rattle.print_lines.specs.InnerFrames.{frameLine, refusedFrame, refusedFault, indexFault}
 
 listing : (payloadCount 4 ≡ ascii "payloads 4")

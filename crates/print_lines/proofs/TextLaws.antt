@@ -1,22 +1,23 @@
 -- Text put after text; and a number's digits.
 -- Assumes nothing.
 use Prim.Native.Nat.{ℕ, zero, suc, _+_, _-_, _*_, _/_, _%_, _<_, _≤_, _^_, min}
-use mathlib.Core.Path.{_≡_, refl, sym, ap, ap₂, _∙_}
+use mathlib.Core.Path.{_≡_, refl, sym, ap, ap₂, subst, _∙_}
 use mathlib.Core.List.{List, [], _∷_, _++_}
 use mathlib.Core.Bool.{Bool, true, false}
 use native.Mathlib.Omega.{arith}
 use native.Mathlib.Decide.{decLe}
-use native.Mathlib.Nat.{add-zero, add-suc, pow-suc}
+use native.Mathlib.Nat.{add-zero, zero-add, add-suc, pow-suc}
 use native.Mathlib.Numerals.{add-one}
-use borrow.Author.Tests.{le-leb, lt-leb, lt-ltb, ne-eqb}
-use lib.Dec.{leb}
+use borrow.Author.Tests.{le-leb, lt-leb, le-ltb, lt-ltb, ne-eqb}
+use lib.Dec.{leb, ltb}
 use lib.ListN.{length, drop, getD, set, length-append, length-set}
 use lib.Seq.{drop-drop}
 use Rattle.bits.specs.Reader.{pick}
 use Rattle.io.specs.Digits.{digits, Fewest}
 use Rattle.bits.specs.Bytes.{over}
-use Rattle.bits.proofs.OverLaws.{put-none, put-one, over-then}
+use Rattle.bits.proofs.OverLaws.{put-none, put-one, over-then, over-length}
 use Rattle.print_lines.specs.InnerText.{Line, lineOf, withByte, withText, tens, numberText, isMark, firstText, markedText, formText}
+use Rattle.print_lines.specs.InnerText.{HoldsLine}
 
 -- a text after another
 pub text-after : (l : Line) (xs ys : List ℕ) → withText l (xs ++ ys) ≡ withText (withText l xs) ys
@@ -128,10 +129,57 @@ text-fits bytes at (b ∷ t) h =
     (text-fits (set bytes at b) (at + 1) t (omega arith)
     ∙ ap₂ lineOf (ap (λ (s : List ℕ). over s (at + 1) t) (one .0) ∙ over-then bytes at (at + 1) (b ∷ []) t refl (omega arith)) e)
 
+-- a text that was put at the front, and is shorter than the line: the line holds it
+pub held : (old new : List ℕ) (at : ℕ) (t : List ℕ) → lineOf new at ≡ withText (lineOf old 0) t → length t < length old
+    → HoldsLine old t at new
+held old new at t e h =
+    let f = e ∙ text-fits old 0 t (omega arith) in
+    let there : at ≡ length t = ap (λ (l : Line). l .at) f ∙ zero-add (length t) in
+    let bytes : new ≡ over old 0 t = ap (λ (l : Line). l .bytes) f in
+    let long : length new ≡ length old = ap length bytes ∙ over-length old 0 t (omega arith) in
+    (there, omega arith, bytes)
+
+-- a text takes no more room than its length, and a full line takes none
+pub text-most : (l : Line) (t : List ℕ) → withText l t .at ≤ l .at + length t
+unfolding withText
+text-most l [] = omega arith
+text-most l (b ∷ t) = omega (arith, text-most (withByte l b) t, go (ltb (l .at) (length (l .bytes))))
+  where
+    go : (r : Bool) → pick r (lineOf (set (l .bytes) (l .at) b) (l .at + 1)) l .at ≤ l .at + 1
+    go true = omega arith
+    go false = omega arith
+
+text-full : (bytes : List ℕ) (at : ℕ) (t : List ℕ) → length bytes ≤ at → withText (lineOf bytes at) t ≡ lineOf bytes at
+unfolding withText
+text-full bytes at [] h = refl
+text-full bytes at (b ∷ t) h = rw (le-ltb at (length bytes) h) (text-full bytes at t h)
+
+room-byte : (bytes : List ℕ) (at b : ℕ) → at < length bytes → withByte (lineOf bytes at) b ≡ lineOf (set bytes at b) (at + 1)
+room-byte bytes at b h = rw (lt-ltb at (length bytes) h)
+
+-- so a line that has room afterwards holds all of the text
+text-room : (bytes : List ℕ) (at : ℕ) (t : List ℕ) → withText (lineOf bytes at) t .at < length bytes → at + length t < length bytes
+unfolding withText
+text-room bytes at [] h = omega arith
+text-room bytes at (b ∷ t) h =
+    elim (decLe (length bytes) at) [
+      | yes d ↦ let e = ap (λ (l : Line). l .at) (text-full bytes at (b ∷ t) d) in absurd (omega arith)
+      | no d ↦
+          let l : length (set bytes at b) ≡ length bytes = length-set bytes at b in
+          let f = ap (λ (l : Line). withText l t .at) (room-byte bytes at b (omega arith)) in
+          omega (arith, text-room (set bytes at b) (at + 1) t (subst (λ (k : ℕ). k < length (set bytes at b)) f (rw l h)))
+    ]
+
+pub roomy : (old new : List ℕ) (at : ℕ) (t : List ℕ) → lineOf new at ≡ withText (lineOf old 0) t → at < length old
+    → HoldsLine old t at new
+roomy old new at t e h =
+    let f = ap (λ (l : Line). l .at) e in
+    held old new at t e (omega (arith, text-room old 0 t (rw f at h)))
+
 -- a number takes at most twenty bytes, so a form at most twenty for each of its own
-digits-long : (k n : ℕ) → length (digits 10 k n) ≡ k
-digits-long zero n = refl
-digits-long (suc k) n = rw (length-append (digits 10 k (n / 10)) _, digits-long k (n / 10)) (omega arith)
+pub digits-long : (b k n : ℕ) → length (digits b k n) ≡ k
+digits-long b zero n = refl
+digits-long b (suc k) n = rw (length-append (digits b k (n / b)) _, digits-long b k (n / b)) (omega arith)
 
 tens-most : (k n : ℕ) → tens k n ≤ k
 tens-most zero n = omega arith
@@ -141,13 +189,30 @@ tens-most (suc k) n = go (leb (10 ^ suc k) n) (tens-most k n)
     go true r = omega arith
     go false r = omega arith
 
-number-short : (n : ℕ) → length (numberText n) ≤ 20
+pub number-short : (n : ℕ) → length (numberText n) ≤ 20
 unfolding numberText
 number-short n = go (leb 18446744073709551360 n)
   where
     go : (b : Bool) → length (pick b (n % 256 ∷ []) (digits 10 (tens 19 n + 1) n)) ≤ 20
     go true = omega arith
-    go false = omega (arith, digits-long (tens 19 n + 1) n, tens-most 19 n)
+    go false = omega (arith, digits-long 10 (tens 19 n + 1) n, tens-most 19 n)
+
+-- a number below 10^m takes at most m, where m is not 0
+tens-few : (j m n : ℕ) → n < 10 ^ suc m → tens j n ≤ m
+tens-few zero m n h = omega arith
+tens-few (suc j) m n h =
+    elim (decLe (suc j) m) [
+      | yes d ↦ omega (arith, tens-most (suc j) n)
+      | no d ↦ let r = ten-rises (suc m) (suc j) (omega arith) in rw (lt-leb (10 ^ suc j) n (omega arith)) (omega (arith, tens-few j m n h))
+    ]
+
+pub number-few : (m n : ℕ) → n < 10 ^ suc m → length (numberText n) ≤ suc m
+unfolding numberText
+number-few m n h = go (leb 18446744073709551360 n)
+  where
+    go : (b : Bool) → length (pick b (n % 256 ∷ []) (digits 10 (tens 19 n + 1) n)) ≤ suc m
+    go true = omega arith
+    go false = omega (arith, digits-long 10 (tens 19 n + 1) n, tens-few 19 m n h)
 
 marked-short : (b : ℕ) (ns : List ℕ) → length (markedText b ns) ≤ 20
 marked-short b ns = go (isMark b) ns

@@ -1,7 +1,7 @@
 -- For contracts of inner functions only: the lines of an ADTS file's frames, and those that say why no image is made of one.
 use Prim.Native.Nat.{ℕ}
 use mathlib.Core.List.{List, [], _∷_}
-use Rattle.print_lines.specs.InnerListing.{line}
+use Rattle.print_lines.specs.InnerText.{line}
 
 -- the k-th frame, which starts at a byte
 unfoldable pub frameLine : ℕ → ℕ → ℕ → ℕ → ℕ → ℕ → ℕ → List ℕ

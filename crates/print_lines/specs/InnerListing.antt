@@ -1,21 +1,10 @@
 -- For contracts of inner functions only: the lines of a listing. Of a bad image there is one; of a good one the count, and a line a
 -- payload from its four numbers in the outline.
 use Prim.Native.Nat.{ℕ, _%_}
-use Prim.Native.Char.{code}
-use Prim.Native.String.{String, [] as no-text, _∷_ as _then_}
 use mathlib.Core.List.{List, [], _∷_}
 use lib.Dec.{eqb}
 use Rattle.bits.specs.Reader.{pick}
-use Rattle.print_lines.specs.InnerText.{formText}
-
--- the bytes of a text
-abbrev pub ascii : String → List ℕ
-ascii no-text = []
-ascii (c then s) = code c ∷ ascii s
-
--- a form, with numbers in place of its marks
-abbrev pub line : String → List ℕ → List ℕ
-line form numbers = formText (ascii form) numbers
+use Rattle.print_lines.specs.InnerText.{line}
 
 unfoldable pub refusedImage : ℕ → List ℕ
 refusedImage number = line "image refused #" (number ∷ [])

@@ -1,6 +1,8 @@
 -- For contracts of inner functions only: a line of text as it is built, bytes put one after another into a buffer. What does not fit is
 -- not put, and the line is full.
-use Prim.Native.Nat.{ℕ, zero, suc, _+_, _%_, _^_}
+use Prim.Native.Nat.{ℕ, zero, suc, _+_, _<_, _%_, _^_}
+use Prim.Native.Char.{code}
+use Prim.Native.String.{String, [] as no-text, _∷_ as _then_}
 use mathlib.Core.Path.{_≡_}
 use mathlib.Core.List.{List, [], _∷_, _++_}
 use mathlib.Core.Bool.{Bool}
@@ -26,6 +28,11 @@ withByte l b = pick (ltb (l .at) (length (l .bytes))) (lineOf (set (l .bytes) (l
 unfoldable pub withText : Line → List ℕ → Line
 withText l [] = l
 withText l (b ∷ bs) = withText (withByte l b) bs
+
+-- the bytes of a text
+abbrev pub ascii : String → List ℕ
+ascii no-text = []
+ascii (c then s) = code c ∷ ascii s
 
 -- how many of the first k powers of ten are not above a number
 abbrev pub tens : ℕ → ℕ → ℕ
@@ -53,6 +60,9 @@ unfoldable pub formText : List ℕ → List ℕ → List ℕ
 formText [] ns = []
 formText (b ∷ bs) ns = markedText b ns ++ formText bs (pick (isMark b) (drop 1 ns) ns)
 
--- a line holds a text at its front, and what it held past it; and the place is after the text
+abbrev pub line : String → List ℕ → List ℕ
+line form numbers = formText (ascii form) numbers
+
+-- a line holds a text at its front, and what it held past it; the place is after the text, where a byte more has room
 abbrev pub HoldsLine : List ℕ → List ℕ → ℕ → List ℕ → Type 0
-HoldsLine old text at new = (at ≡ length text) × (new ≡ over old 0 text)
+HoldsLine old text at new = (at ≡ length text) × (at < length new) × (new ≡ over old 0 text)

@@ -1,32 +1,18 @@
-// The lines that the programs print: of each payload one in the listing, and in a dump what it holds and the stereo state after it; of each
-// frame of an ADTS file one; and why no image is made of a file.
-// A form is words with a mark `#` in place of each number. A line is written where all lines before it were (`ok`), and the answer is
-// whether it was.
+// The lines that the programs print: of each payload one in the listing; of each frame of an ADTS file one; and why no image is made of a
+// file. A form is words with a mark `#` in place of each number.
 ghost use mathlib.Core.Path.{_≡_};
-ghost use Prim.Native.Nat.{_*_, _≤_};
+ghost use Prim.Native.Nat.{_*_, _<_, _≤_};
 ghost use lib.ListN.{length};
 ghost use Rattle.print_lines.specs.InnerText.{formText, HoldsLine};
 ghost use Rattle.print_lines.specs.InnerListing.{refusedImage, payloadCount, refusedLine, acceptedLine, payloadLine};
 
-pub mod channels;
-pub mod contents;
 pub mod faults;
 pub mod frames;
-mod marks;
-pub mod records;
-mod rows;
-mod text;
-
-// A form, with the numbers in place of its marks.
-fn say_form(ok: bool, form: &[u8], numbers: &[usize]) -> bool {
-    let mut line = [0u8; 128];
-    let at = text::put_form(&mut line, 0, form, numbers);
-    text::say(ok, &mut line, at)
-}
+pub mod text;
 
 // A form, with the numbers in place of its marks, put at the front of a lent line.
-fn put_line(line: &mut [u8], form: &[u8], numbers: &[usize]) -> usize
-    requires { ⌜ 20 * length (now form) ≤ length (now line) ⌝ }
+pub fn put_line(line: &mut [u8], form: &[u8], numbers: &[usize]) -> usize
+    requires { ⌜ 20 * length (now form) < length (now line) ⌝ }
     ensures { λ r. ⌜ HoldsLine (now (line .entry)) (formText (now (form .entry)) (now (numbers .entry))) r (now (line .exit)) ⌝ }
 {
     text::put_form(line, 0, form, numbers)

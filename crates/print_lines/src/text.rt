@@ -1,7 +1,8 @@
 // A line of text: words and numbers are put into a lent line, which is then written out at once.
-// Each `put` answers the place after what it put; what does not fit is not put, and a line that is full is not written.
+// Each `put` answers the place after what it put. What does not fit is not put, so a line is written only where it is known to have room.
 ghost use mathlib.Core.Path.{_≡_};
-ghost use lib.ListN.{drop};
+ghost use Prim.Native.Nat.{_<_};
+ghost use lib.ListN.{length, drop};
 ghost use Rattle.print_lines.specs.InnerText.{lineOf, withByte, withText, numberText, markedText, formText};
 
 // A byte.
@@ -73,41 +74,18 @@ pub fn put_form(line: &mut [u8], at: usize, form: &[u8], numbers: &[usize]) -> u
     to
 }
 
-// How far a number is from 0.
-fn magnitude(n: i16) -> usize {
-    let wide = n as i64;
-    if wide < 0 {
-        return (0 - wide) as usize;
-    }
-    wide as usize
-}
-
-// The sign of a number below 0.
-fn put_sign(line: &mut [u8], at: usize, n: i16) -> usize {
-    if n < 0 {
-        return put_byte(line, at, b'-');
-    }
-    at
-}
-
-// A number with its sign.
-pub fn put_signed(line: &mut [u8], at: usize, n: i16) -> usize {
-    let to = put_sign(line, at, n);
-    put_number(line, to, magnitude(n))
-}
-
-// The line is ended and written to standard output (1) or standard error (2), whole or not at all; the answer is whether all of it was
-// written.
-pub fn write_line(to: i32, line: &mut [u8], at: usize) -> bool {
-    if line.len() <= at {
-        return false;
-    }
+// The line is ended and written to standard output (1) or standard error (2); the answer is whether all of it was written.
+pub fn write_line(to: i32, line: &mut [u8], at: usize) -> bool
+    requires { ⌜ at < length (now line) ⌝ }
+{
     line[at] = b'\n';
     io::write_all(to, &line[..at + 1])
 }
 
 // The line is ended and written to standard output where all lines before it were; the answer is whether all of it was written.
-pub fn say(ok: bool, line: &mut [u8], at: usize) -> bool {
+pub fn say(ok: bool, line: &mut [u8], at: usize) -> bool
+    requires { ⌜ at < length (now line) ⌝ }
+{
     if !ok {
         return false;
     }

@@ -19,7 +19,7 @@ returns-2 c =
     let part = c .before .before .before in
     let entry = part .before .before in
     let a = entry .args in
-    let place = part .part-of .ensures .0 ∙ part-is (a .image .now) (a .k) (entry .pre .1) in
+    let place = part .part-of .ensures .0 ∙ part-is (a .image .now) (a .k) (entry .pre) in
     rw place at (c .print-stereo .ensures) ∙ rw (ne-eqb (a .k % 2) 0 (c .before .if1 .left))
 
 pub print-details-spec : {M : Type 1} → statement M

@@ -16,7 +16,6 @@ print-payloads-requires c κs =
     let long : 4096 ≤ length (read .read-image .last .1 .0) = search needs in
     let zero = rw outline at (c .before .before .before .if1 .left) in
     let header = outline ∙ outline-header (a .image .now) 4096 zero in (
-      read .before .before .before .pre,
       rw outline (outline-few (a .image .now) 4096 zero),
       long,
       sym header ∙ sound-header (read .read-image .result) (c .before .before .before .if1 .left),

@@ -28,8 +28,8 @@ print-payload-requires c κs =
     let a = start c .args in
     let pre = start c .pre in
     let l = c .before .loop in
-    let there = part-there (a .image .now) (a .count) (a .index) (l .k) (pre .3) (omega arith) in
-    (pre .0, omega arith, pre .2, ap (λ (p : Part). p .number) there, l .inv .1)
+    let there = part-there (a .image .now) (a .count) (a .index) (l .k) (pre .2) (omega arith) in
+    (omega arith, pre .1, ap (λ (p : Part). p .number) there, l .inv .1)
 
 loop-again : tie.Need-loop-again Inv-loop μ-loop
 loop-again c =
@@ -39,7 +39,7 @@ loop-again c =
     let l = turn .before .loop in (
       omega arith,
       printed .print-payload .ensures
-          ∙ rw (l .inv .1) (state-next (a .full) (a .image .now) (a .count) (a .index) (l .k) (start turn .pre .3)),
+          ∙ rw (l .inv .1) (state-next (a .full) (a .image .now) (a .count) (a .index) (l .k) (start turn .pre .2)),
     )
 
 pub print-payloads-spec : {M : Type 1} → statement M

@@ -17,6 +17,6 @@ slice-aggregate-write-all c = sym (length-take-le _ _ (simp length-set (omega ar
 pub write-line-spec : {M : Type 1} → statement M
 write-line-spec =
     tie.close
-    (tie.spec (λ c. search needs) (λ c. search needs) (λ c. search needs)
+    (tie.spec (λ c. search needs) (λ c. search needs)
     slice-reshare-prefix-write-all slice-aggregate-write-all (λ c κs. search needs) (λ c. search needs)
     (λ c. search needs))

@@ -1,0 +1,5 @@
+pub mod Signs
+pub mod RowLaws
+pub mod EachLaws
+pub mod FillLaws
+pub mod Examples

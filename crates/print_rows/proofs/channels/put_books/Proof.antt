@@ -1,0 +1,30 @@
+-- The words, and the numbers after them, of which there are at most 120.
+-- Assumes nothing.
+use native.Mathlib.Omega.{arith}
+use lib.ListN.{take}
+use Rattle.print_lines.specs.InnerText.{ascii}
+use Rattle.print_rows.specs.InnerEach.{numbersText}
+use Rattle.print_rows.specs.InnerChannelRows.{bandCount, booksRow}
+use Rattle.print_rows.proofs.EachLaws.{numbers-short}
+use Rattle.print_rows.proofs.RowLaws.{two-held}
+use borrow.Author.Needs.{needs}
+use Rattle.print_rows.proofs.channels.put_books.Statement.{statement}
+use Rattle.print_rows.proofs.channels.put_books.Tie as tie
+
+returns : tie.Need-returns
+unfolding booksRow
+returns c =
+    let list = c .before .before in
+    let words = list .before .before .before .before .before in
+    let entry = words .before .before .before .before .before in
+    let a = entry .args in
+    let n = bandCount (a .r) in
+    two-held (a .line .now) (ascii "  books") (numbersText (take n (a .books .now))) (words .put .ensures)
+    (rw (list .before .band-count .ensures) at (list .put-bytes .ensures))
+    (omega (arith, numbers-short n (a .books .now), entry .pre))
+
+pub put-books-spec : {M : Type 1} → statement M
+put-books-spec =
+    tie.close
+    (tie.spec (λ c. search needs) (λ c κs. search needs) (λ c κs. search needs) (λ c κs. search needs) (λ c. search needs)
+    returns)
