@@ -13,6 +13,11 @@
 extern "C" {
 #endif
 
+/* Every length and every place in a file is a uint64_t, also where size_t has 32 bits: what is proved, and what the archive is compiled from, has
+ * lengths of 64 bits on every processor. A header that said size_t would link on a processor of 32 bits without a word, and hand over the wrong
+ * arguments. No length is ever cut: what a size_t holds, a uint64_t holds, which is checked here. */
+typedef char oarcradler_no_length_is_cut[sizeof(uint64_t) == 8 && sizeof(size_t) <= sizeof(uint64_t) ? 1 : -1];
+
 /* How much each buffer holds at least. A longer one is taken, and what stands past the layout is left alone. */
 enum oarcradler_size {
     OARCRADLER_STATE = 146,        /* bytes of the stereo state */
@@ -137,45 +142,66 @@ static inline uint32_t oarcradler_word(const uint8_t *at)
 }
 
 /* The state before any payload is written to a lent state. 2, or 0. */
-uint32_t oarcradler_fresh_state(uint8_t *state, size_t state_size);
+uint32_t oarcradler_fresh_state(uint8_t *state, uint64_t state_size);
 
 /* A stereo payload that never came: the state is out of step. 4, or 0. A refused payload has done so itself. */
-uint32_t oarcradler_report_missing(uint8_t *state, size_t state_size);
+uint32_t oarcradler_report_missing(uint8_t *state, uint64_t state_size);
 
 /* The stereo payload in bytes start to end (not included) of a buffer: the state is moved on, the answer written. 1, 2, 4, with nothing
  * touched; 10 to 35, with the state out of step and nothing else touched; or 0. */
-uint32_t oarcradler_read_stereo(uint8_t *state, size_t state_size, const uint8_t *buffer, size_t buffer_size, uint32_t start, uint32_t end,
-    uint8_t *answer, size_t answer_size);
+uint32_t oarcradler_read_stereo(
+    uint8_t *state, uint64_t state_size,
+    const uint8_t *buffer, uint64_t buffer_size, uint32_t start, uint32_t end,
+    uint8_t *answer, uint64_t answer_size);
 
 /* Contents, laid out as a stereo answer, are written as a payload: the state is moved on, the bits written are put in the contents' first
  * word. 4, 40, 35, 2, with nothing touched; or 0. */
-uint32_t oarcradler_write_stereo(uint8_t *state, size_t state_size, uint8_t *contents, size_t contents_size, uint8_t *out, size_t out_size);
+uint32_t oarcradler_write_stereo(
+    uint8_t *state, uint64_t state_size,
+    uint8_t *contents, uint64_t contents_size,
+    uint8_t *out, uint64_t out_size);
 
 /* The channel stream in bytes start to end (not included) of a buffer, for a sampling index: lines, scale factors, books and the answer are
  * written. 1, 2, 3 or 10 to 26, with nothing touched; or 0. Lengths are counted in elements. */
-uint32_t oarcradler_read_channel(const uint8_t *buffer, size_t buffer_size, uint32_t start, uint32_t end, uint32_t index, int16_t *lines,
-    size_t line_count, uint8_t *factors, size_t factors_size, uint8_t *books, size_t books_size, uint8_t *answer, size_t answer_size);
+uint32_t oarcradler_read_channel(
+    const uint8_t *buffer, uint64_t buffer_size, uint32_t start, uint32_t end, uint32_t index,
+    int16_t *lines, uint64_t line_count,
+    uint8_t *factors, uint64_t factors_size,
+    uint8_t *books, uint64_t books_size,
+    uint8_t *answer, uint64_t answer_size);
 
 /* The header of a tag image: its payload count and sampling index are written as two words. 2, 5, 3, or 0. */
-uint32_t oarcradler_read_header(const uint8_t *image, size_t image_size, uint8_t *answer, size_t answer_size);
+uint32_t oarcradler_read_header(
+    const uint8_t *image, uint64_t image_size,
+    uint8_t *answer, uint64_t answer_size);
 
 /* The payload k of a tag image: where it starts and ends is written as two words. 2, 5, 3, 1 where there is no such payload, or 0. */
-uint32_t oarcradler_find_part(const uint8_t *image, size_t image_size, uint32_t k, uint8_t *answer, size_t answer_size);
+uint32_t oarcradler_find_part(
+    const uint8_t *image, uint64_t image_size, uint32_t k,
+    uint8_t *answer, uint64_t answer_size);
 
 /* The ADTS frame that starts at a byte of a file: lines, scale factors, books and the answer are written. 1 where the start is past the file;
  * 2; 10, 50, 51, 52 of the header; 10 to 26, 53 of the block; 12; each with nothing touched; or 0. Lengths are counted in elements. */
-uint32_t oarcradler_read_frame(const uint8_t *file, size_t file_size, size_t start, int16_t *lines, size_t line_count, uint8_t *factors,
-    size_t factors_size, uint8_t *books, size_t books_size, uint8_t *answer, size_t answer_size);
+uint32_t oarcradler_read_frame(
+    const uint8_t *file, uint64_t file_size, uint64_t start,
+    int16_t *lines, uint64_t line_count,
+    uint8_t *factors, uint64_t factors_size,
+    uint8_t *books, uint64_t books_size,
+    uint8_t *answer, uint64_t answer_size);
 
 /* The channel stream of the ADTS frame that starts at a byte of a file is written, its last byte filled up with zero bits, and the frame's
  * answer. 1, 2 for the answer, then as oarcradler_read_frame refuses, last 2 where the stream doesn't fit; each with nothing touched; or 0. */
-uint32_t oarcradler_unwrap_frame(const uint8_t *file, size_t file_size, size_t start, uint8_t *out, size_t out_size, uint8_t *answer,
-    size_t answer_size);
+uint32_t oarcradler_unwrap_frame(
+    const uint8_t *file, uint64_t file_size, uint64_t start,
+    uint8_t *out, uint64_t out_size,
+    uint8_t *answer, uint64_t answer_size);
 
 /* The channel stream in bytes start to end (not included) of a buffer, for a sampling index, is written as one ADTS frame, and the frame's
  * length as a word. 1, 2 for the answer, 3, 10 to 26, 12, last 2 where the frame doesn't fit; each with nothing touched; or 0. */
-uint32_t oarcradler_wrap_stream(const uint8_t *buffer, size_t buffer_size, uint32_t start, uint32_t end, uint32_t index, uint8_t *out,
-    size_t out_size, uint8_t *answer, size_t answer_size);
+uint32_t oarcradler_wrap_stream(
+    const uint8_t *buffer, uint64_t buffer_size, uint32_t start, uint32_t end, uint32_t index,
+    uint8_t *out, uint64_t out_size,
+    uint8_t *answer, uint64_t answer_size);
 
 #ifdef __cplusplus
 }
