@@ -14,7 +14,7 @@ uint32_t call_fresh(struct lent *state)
 {
     remember(state);
     uint32_t number = oarcradler_fresh_state(bytes_of(state), state->size);
-    calls++;
+    called(number);
     expect(number == 0 || number == 2, "fresh_state: a number that it never gives");
     expect(same_but(state, 0, number == 0 ? OARCRADLER_STATE : 0), "fresh_state: a byte was changed that is not its own");
     return number;
@@ -24,7 +24,7 @@ uint32_t call_missing(struct lent *state)
 {
     remember(state);
     uint32_t number = oarcradler_report_missing(bytes_of(state), state->size);
-    calls++;
+    called(number);
     expect(number == 0 || number == 4, "report_missing: a number that it never gives");
     if (number == 0) {
         expect(same_but(state, 5, 6), "report_missing: a byte besides the mark was changed");
@@ -41,7 +41,7 @@ uint32_t call_read_stereo(struct stereo_call *call, uint32_t start, uint32_t end
     remember(&call->state), remember(&call->buffer), remember(&call->answer);
     uint32_t number = oarcradler_read_stereo(bytes_of(&call->state), call->state.size, bytes_of(&call->buffer), call->buffer.size, start, end,
         bytes_of(&call->answer), call->answer.size);
-    calls++;
+    called(number);
     expect(is_one_of(number, numbers), "read_stereo: a number that it never gives");
     expect(same(&call->buffer), "read_stereo: the buffer was changed");
     if (number == 0) {
@@ -65,7 +65,7 @@ uint32_t call_write_stereo(struct write_call *call)
     remember(&call->state), remember(&call->contents), remember(&call->out);
     uint32_t number = oarcradler_write_stereo(bytes_of(&call->state), call->state.size, bytes_of(&call->contents), call->contents.size,
         bytes_of(&call->out), call->out.size);
-    calls++;
+    called(number);
     expect(is_one_of(number, numbers), "write_stereo: a number that it never gives");
     if (number == 0) {
         size_t size = (oarcradler_word(bytes_of(&call->contents)) + 7) / 8;
@@ -87,7 +87,7 @@ uint32_t call_read_channel(struct channel_call *call, uint32_t start, uint32_t e
         (int16_t *)(void *)bytes_of(&call->lines), call->lines.size / sizeof(int16_t), bytes_of(&call->factors), call->factors.size,
         bytes_of(&call->books), call->books.size, bytes_of(&call->answer), call->answer.size);
     int done = number == 0;
-    calls++;
+    called(number);
     expect(is_one_of(number, numbers), "read_channel: a number that it never gives");
     expect(same(&call->buffer), "read_channel: the buffer was changed");
     expect(same_but(&call->lines, 0, done ? OARCRADLER_LINES * sizeof(int16_t) : 0), "read_channel: a byte was changed that is no line");
@@ -102,7 +102,7 @@ uint32_t call_read_header(struct image_call *call)
     static const uint32_t numbers[] = { 2, 3, 5, 0 };
     remember(&call->image), remember(&call->answer);
     uint32_t number = oarcradler_read_header(bytes_of(&call->image), call->image.size, bytes_of(&call->answer), call->answer.size);
-    calls++;
+    called(number);
     expect(is_one_of(number, numbers), "read_header: a number that it never gives");
     expect(same(&call->image), "read_header: the image was changed");
     expect(same_but(&call->answer, 0, number == 0 ? OARCRADLER_HEADER : 0), "read_header: a byte was changed that is not the answer's");
@@ -114,7 +114,7 @@ uint32_t call_find_part(struct image_call *call, uint32_t k)
     static const uint32_t numbers[] = { 1, 2, 3, 5, 0 };
     remember(&call->image), remember(&call->answer);
     uint32_t number = oarcradler_find_part(bytes_of(&call->image), call->image.size, k, bytes_of(&call->answer), call->answer.size);
-    calls++;
+    called(number);
     expect(is_one_of(number, numbers), "find_part: a number that it never gives");
     expect(same(&call->image), "find_part: the image was changed");
     expect(same_but(&call->answer, 0, number == 0 ? OARCRADLER_PART : 0), "find_part: a byte was changed that is not the answer's");
@@ -131,7 +131,7 @@ uint32_t call_read_frame(struct frame_call *call, size_t start)
         call->lines.size / sizeof(int16_t), bytes_of(&call->factors), call->factors.size, bytes_of(&call->books), call->books.size,
         bytes_of(&call->answer), call->answer.size);
     int done = number == 0;
-    calls++;
+    called(number);
     expect(is_one_of(number, frame_numbers), "read_frame: a number that it never gives");
     expect(same(&call->file), "read_frame: the file was changed");
     expect(same_but(&call->lines, 0, done ? OARCRADLER_LINES * sizeof(int16_t) : 0), "read_frame: a byte was changed that is no line");
@@ -146,7 +146,7 @@ uint32_t call_unwrap_frame(struct unwrap_call *call, size_t start)
     remember(&call->file), remember(&call->out), remember(&call->answer);
     uint32_t number = oarcradler_unwrap_frame(bytes_of(&call->file), call->file.size, start, bytes_of(&call->out), call->out.size,
         bytes_of(&call->answer), call->answer.size);
-    calls++;
+    called(number);
     expect(is_one_of(number, frame_numbers), "unwrap_frame: a number that it never gives");
     expect(same(&call->file), "unwrap_frame: the file was changed");
     if (number == 0) {
@@ -166,7 +166,7 @@ uint32_t call_wrap_stream(struct wrap_call *call, uint32_t start, uint32_t end, 
     remember(&call->buffer), remember(&call->out), remember(&call->answer);
     uint32_t number = oarcradler_wrap_stream(bytes_of(&call->buffer), call->buffer.size, start, end, index, bytes_of(&call->out),
         call->out.size, bytes_of(&call->answer), call->answer.size);
-    calls++;
+    called(number);
     expect(is_one_of(number, numbers), "wrap_stream: a number that it never gives");
     expect(same(&call->buffer), "wrap_stream: the buffer was changed");
     if (number == 0) {

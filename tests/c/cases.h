@@ -23,6 +23,9 @@ void test_channel_payload(const uint8_t *payload, size_t size, uint32_t index);
 /* A channel stream: wrapped as a frame, that frame read and cut again, and refused in every way. */
 void test_wrapped_payload(const uint8_t *payload, size_t size, uint32_t index);
 
+/* An image of some size is begun: what is altered from here on does not hang on what came before. */
+void begin_altering(size_t size);
+
 /* A stereo payload: read, refused in every way, written back; the state moves on. */
 void test_stereo_payload(uint8_t *state, const uint8_t *payload, size_t size);
 

@@ -66,6 +66,7 @@ void test_image(const uint8_t *image, size_t size)
     expect(index == 3 || index == 4 || index == 6 || index == 7, "read_header: an unknown index");
     test_no_parts(count);
     oarcradler_fresh_state(state, sizeof state);
+    begin_altering(size);
     for (uint32_t k = 0; k < count; k++)
         end = test_part(image, size, k, end, index, state);
     expect(end == size, "find_part: the last part does not end the image");

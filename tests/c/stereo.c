@@ -5,7 +5,7 @@
 #include "cases.h"
 #include "oarcradler.h"
 
-enum { ALTERED = 4, MOST_WRITTEN = 1200 };
+enum { ALTERED = 4, MOST_WRITTEN = 1200, FIRST_CHANCE = 20261115 };
 
 /* What a call of read_stereo left. */
 struct reading {
@@ -15,6 +15,7 @@ struct reading {
 
 static struct stereo_call read;
 static struct write_call write;
+static uint32_t chance = FIRST_CHANCE;
 
 /* Buffers for a payload: so many other bytes on either side of it, the state's and the answer's so much longer than needed. */
 static void lend_read(const uint8_t *state, const uint8_t *payload, size_t size, size_t around, size_t longer, unsigned seed)
@@ -121,14 +122,13 @@ static void test_out_of_step(const uint8_t *state, const uint8_t *payload, size_
     expect(number == 35 || number == 40, "write_stereo: out of step, what is no restart was written");
 }
 
-/* Numbers that look random, the same on every run. */
+/* Numbers that look random, the same for an image on every run. */
 static unsigned some(unsigned below)
 {
-    static uint32_t seed = 20261115;
-    seed ^= seed << 13;
-    seed ^= seed >> 17;
-    seed ^= seed << 5;
-    return seed % below;
+    chance ^= chance << 13;
+    chance ^= chance >> 17;
+    chance ^= chance << 5;
+    return chance % below;
 }
 
 /* Contents with a byte altered can't be written, or are written to a payload that is read to them. */
@@ -150,6 +150,11 @@ static void test_altered_contents(const uint8_t *state, const struct reading *r)
     expect_number(oarcradler_word(back.answer), bits, "read_stereo: the bits of altered contents that were written");
     expect(memcmp(back.answer + 4, contents + 4, sizeof contents - 4) == 0, "altered contents were written to a payload of others");
     expect(memcmp(back.state, bytes_of(&write.state), sizeof back.state) == 0, "write_stereo and read_stereo leave different states");
+}
+
+void begin_altering(size_t size)
+{
+    chance = FIRST_CHANCE + (uint32_t)size;
 }
 
 void test_stereo_payload(uint8_t *state, const uint8_t *payload, size_t size)
