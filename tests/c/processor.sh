@@ -1,19 +1,12 @@
 # processor.sh: what the scripts here share about processors: where programs for one stand, what compiles them and what runs them. It is
 # read in (. tests/c/processor.sh) at the top of the checkout.
+. tools/target.sh
 
 # built_in PROCESSOR: the folder of its programs.
 built_in() {
     case $1 in
     x86-64) echo target/c ;;
     *) echo "target/c/$1" ;;
-    esac
-}
-
-# archive_of PROCESSOR: its archive.
-archive_of() {
-    case $1 in
-    x86-64) echo target/liboarcradler.a ;;
-    *) echo "target/$1/liboarcradler.a" ;;
     esac
 }
 

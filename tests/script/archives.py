@@ -97,6 +97,7 @@ def refused_archives(room, copy, given):
     bad = os.path.join(room, "bad.ll")
     with open(bad, "w") as f:
         f.write("@table = constant i8 0\n" + MODULE)
+    os.remove(old + ".made")
     os.remove(os.path.join(copy, "target", "module", "c_channel.checked"))
     faults = told("a module with a global", archive(copy, "armv7", **{**given, "FAKE_TEXT": bad}), 1, "a global", "c_channel: the width")
     done = archive(copy, "armv7", **given, OTHER_OBJECT="another")
