@@ -14,6 +14,12 @@ void test_known_channel(void);
 void test_known_image(void);
 void test_known_frame(void);
 
+/* The header's constants. */
+void test_face(void);
+
+/* Null pointers with length 0. */
+void test_nulls(void);
+
 /* An image: its header, its parts, each payload. */
 void test_image(const uint8_t *image, size_t size);
 

@@ -50,11 +50,13 @@ int main(void)
 {
     static uint8_t image[MOST_LENT];
     uint32_t images = next_word();
+    test_face();
     test_states();
     test_known_stereo();
     test_known_channel();
     test_known_image();
     test_known_frame();
+    test_nulls();
     print_digest("known", image, 0);
     while (image_number < images) {
         size_t size = next_image(image, sizeof image);

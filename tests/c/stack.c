@@ -5,22 +5,29 @@
 
 #include "oarcradler.h"
 
-enum { STACK = 20480, LIMIT = 16384, MOST_WRITTEN = 1200, ENTRIES = 10, LEAST_CALLS = 40000, OWN = 256 };
+enum { STACK = 20480, LIMIT = 16384, ENTRIES = 10, LEAST_CALLS = 40000, OWN = 256 };
 
 static const uint64_t paint = 0xa5a5a5a5a5a5a5a5u;
 
-static const char *const names[ENTRIES]
-    = { "oarcradler_fresh_state", "oarcradler_report_missing", "oarcradler_read_stereo", "oarcradler_write_stereo", "oarcradler_read_channel",
-          "oarcradler_read_header", "oarcradler_find_part", "oarcradler_read_frame", "oarcradler_unwrap_frame", "oarcradler_wrap_stream" };
+static const struct {
+    const char *name;
+    size_t enough;
+} entries[ENTRIES] = { { "oarcradler_fresh_state", OARCRADLER_STACK_FRESH_STATE },
+    { "oarcradler_report_missing", OARCRADLER_STACK_REPORT_MISSING }, { "oarcradler_read_stereo", OARCRADLER_STACK_READ_STEREO },
+    { "oarcradler_write_stereo", OARCRADLER_STACK_WRITE_STEREO }, { "oarcradler_read_channel", OARCRADLER_STACK_READ_CHANNEL },
+    { "oarcradler_read_header", OARCRADLER_STACK_READ_HEADER }, { "oarcradler_find_part", OARCRADLER_STACK_FIND_PART },
+    { "oarcradler_read_frame", OARCRADLER_STACK_READ_FRAME }, { "oarcradler_unwrap_frame", OARCRADLER_STACK_UNWRAP_FRAME },
+    { "oarcradler_wrap_stream", OARCRADLER_STACK_WRAP_STREAM } };
 static uint8_t *frame;
 static size_t deepest[ENTRIES];
 static unsigned long called[ENTRIES], measured;
 
 /* The buffers of the call that is measured, and what it gave. */
-static uint8_t image[70000], state[OARCRADLER_STATE], answer[OARCRADLER_STEREO], out[MOST_WRITTEN], words[OARCRADLER_HEADER];
-static uint8_t factors[OARCRADLER_FACTORS], books[OARCRADLER_BOOKS];
-static uint8_t adts_frame[OARCRADLER_FRAME_MOST], stream[OARCRADLER_STREAM_MOST], length[OARCRADLER_WRAPPED];
-static int16_t lines[OARCRADLER_LINES];
+static uint8_t image[70000], state[OARCRADLER_SIZE_STATE], answer[OARCRADLER_SIZE_STEREO], out[OARCRADLER_MOST_WRITTEN], words[OARCRADLER_SIZE_HEADER];
+static struct oarcradler_factors factors;
+static struct oarcradler_books books;
+static uint8_t adts_frame[OARCRADLER_MOST_WRAPPED], stream[OARCRADLER_MOST_STREAM], length[OARCRADLER_SIZE_WRAPPED];
+static int16_t lines[OARCRADLER_SIZE_LINES];
 static const uint8_t *file;
 static size_t size, file_size, first;
 static uint32_t start, end, index, number;
@@ -36,14 +43,14 @@ static __attribute__((noinline)) void call_entry(void)
     case 2: number = oarcradler_read_stereo(state, sizeof state, image, size, start, end, answer, sizeof answer); break;
     case 3: number = oarcradler_write_stereo(state, sizeof state, answer, sizeof answer, out, sizeof out); break;
     case 4:
-        number = oarcradler_read_channel(image, size, start, end, index, lines, OARCRADLER_LINES, factors, sizeof factors, books,
+        number = oarcradler_read_channel(image, size, start, end, index, lines, OARCRADLER_SIZE_LINES, &factors, sizeof factors, &books,
             sizeof books, answer, sizeof answer);
         break;
     case 5: number = oarcradler_read_header(image, size, words, sizeof words); break;
     case 6: number = oarcradler_find_part(image, size, start, words, sizeof words); break;
     case 7:
-        number = oarcradler_read_frame(file, file_size, first, lines, OARCRADLER_LINES, factors, sizeof factors, books, sizeof books, answer,
-            sizeof answer);
+        number = oarcradler_read_frame(file, file_size, first, lines, OARCRADLER_SIZE_LINES, &factors, sizeof factors, &books, sizeof books,
+            answer, sizeof answer);
         break;
     case 8: number = oarcradler_unwrap_frame(file, file_size, first, stream, sizeof stream, answer, sizeof answer); break;
     default:
@@ -94,7 +101,7 @@ static __attribute__((noinline)) uint32_t measure(int which)
 /* A stereo payload; what was read, and the same altered, written from the state before; the payload read out of step. The state moves on. */
 static void measure_stereo(void)
 {
-    uint8_t before[OARCRADLER_STATE], after[OARCRADLER_STATE];
+    uint8_t before[OARCRADLER_SIZE_STATE], after[OARCRADLER_SIZE_STATE];
     memcpy(before, state, sizeof before);
     uint32_t read = measure(2);
     memcpy(after, state, sizeof after);
@@ -102,7 +109,7 @@ static void measure_stereo(void)
         memcpy(state, before, sizeof state);
         measure(3);
         memcpy(state, before, sizeof state);
-        answer[OARCRADLER_STEREO_FIRST] ^= 3;
+        answer[OARCRADLER_AT_STEREO_FIRST] ^= 3;
         measure(3);
     }
     memcpy(state, before, sizeof state);
@@ -116,7 +123,7 @@ static void measure_channel(void)
 {
     measure(4);
     if (measure(9) == 0) {
-        file = adts_frame, first = 0, file_size = oarcradler_word(length + OARCRADLER_WRAPPED_LENGTH);
+        file = adts_frame, first = 0, file_size = oarcradler_word(length + OARCRADLER_AT_WRAPPED_LENGTH);
         measure(7);
         measure(8);
         file_size--;
@@ -135,13 +142,13 @@ static void measure_image(void)
     if (measure(5) != 0)
         return;
     uint32_t count = oarcradler_word(words);
-    index = oarcradler_word(words + OARCRADLER_HEADER_INDEX);
+    index = oarcradler_word(words + OARCRADLER_AT_HEADER_INDEX);
     for (uint32_t k = 0; k < count; k++) {
         start = k;
         if (measure(6) != 0)
             return;
-        start = oarcradler_word(words + OARCRADLER_PART_START);
-        end = oarcradler_word(words + OARCRADLER_PART_END);
+        start = oarcradler_word(words + OARCRADLER_AT_PART_START);
+        end = oarcradler_word(words + OARCRADLER_AT_PART_END);
         if (k % 2 == 0)
             measure_channel();
         else
@@ -182,8 +189,8 @@ int main(void)
     if (!measure_images())
         return 2;
     for (int k = 0; k < ENTRIES; k++) {
-        int deep = deepest[k] > LIMIT;
-        printf("%s: %lu bytes of stack%s\n", names[k], (unsigned long)deepest[k], deep ? ", MORE THAN 16384" : "");
+        int deep = deepest[k] > entries[k].enough || deepest[k] > LIMIT;
+        printf("%s: %lu bytes of stack%s\n", entries[k].name, (unsigned long)deepest[k], deep ? ", MORE THAN THE HEADER SAYS" : "");
         over |= deep || called[k] == 0;
     }
     printf("%lu calls measured\n", measured);
