@@ -4,10 +4,8 @@
 
 #include "oarcradler.h"
 
-enum { LONGEST_FRAME = 8191 };
-
 /* The part of the file that is looked at: as much as a frame can have. */
-static uint8_t window[LONGEST_FRAME];
+static uint8_t window[OARCRADLER_MOST_FRAME];
 
 /* The first bytes of the window make room for the next ones of the file. How many bytes there are now. */
 static size_t move_on(size_t first, size_t size)
@@ -21,7 +19,7 @@ static size_t move_on(size_t first, size_t size)
 static int print_stream(const uint8_t *stream, size_t size)
 {
     static const char digits[] = "0123456789abcdef";
-    static char line[2 * OARCRADLER_STREAM_MOST + 2];
+    static char line[2 * OARCRADLER_MOST_STREAM + 2];
     for (size_t k = 0; k < size; k++) {
         line[2 * k] = digits[stream[k] >> 4];
         line[2 * k + 1] = digits[stream[k] & 15];
@@ -34,8 +32,8 @@ static int print_stream(const uint8_t *stream, size_t size)
 /* Every frame of the file, up to one that is refused or whose line is not printed. Whether none was; if one was, it is told. */
 static int cut_file(void)
 {
-    static uint8_t stream[OARCRADLER_STREAM_MOST];
-    uint8_t answer[OARCRADLER_FRAME];
+    static uint8_t stream[OARCRADLER_MOST_STREAM];
+    uint8_t answer[OARCRADLER_SIZE_FRAME];
     unsigned long at = 0;
     for (size_t size = move_on(0, 0); size > 0 && !ferror(stdin);) {
         uint32_t number = oarcradler_unwrap_frame(window, size, 0, stream, sizeof stream, answer, sizeof answer);
@@ -43,8 +41,8 @@ static int cut_file(void)
             fprintf(stderr, "cut: frame at %lu refused %u\n", at, (unsigned)number);
             return 0;
         }
-        uint32_t length = oarcradler_word(answer + OARCRADLER_FRAME_LENGTH);
-        if (!print_stream(stream, (oarcradler_word(answer + OARCRADLER_CHANNEL_BITS) + 7) / 8))
+        uint32_t length = oarcradler_word(answer + OARCRADLER_AT_FRAME_LENGTH);
+        if (!print_stream(stream, (oarcradler_word(answer + OARCRADLER_AT_CHANNEL_BITS) + 7) / 8))
             break;
         at += length;
         size = move_on(length, size);

@@ -3,16 +3,14 @@
 
 #include "oarcradler.h"
 
-enum { LONGEST_IMAGE = 65535 };
-
 /* One byte more than an image may have, so that a longer input is seen. */
-static uint8_t image[LONGEST_IMAGE + 1];
+static uint8_t image[OARCRADLER_MOST_IMAGE + 1];
 
 /* How many lines are not 0. */
 static unsigned count_set(const int16_t *lines)
 {
     unsigned set = 0;
-    for (int k = 0; k < OARCRADLER_LINES; k++)
+    for (int k = 0; k < OARCRADLER_SIZE_LINES; k++)
         set += lines[k] != 0;
     return set;
 }
@@ -20,37 +18,39 @@ static unsigned count_set(const int16_t *lines)
 /* An even payload is a channel stream. A handset hands its numbers to the sound chip here. Whether its line was printed. */
 static int play_channel(uint32_t k, size_t size, uint32_t start, uint32_t end, uint32_t index)
 {
-    static int16_t lines[OARCRADLER_LINES];
-    static uint8_t factors[OARCRADLER_FACTORS], books[OARCRADLER_BOOKS];
-    uint8_t answer[OARCRADLER_CHANNEL];
-    uint32_t number = oarcradler_read_channel(image, size, start, end, index, lines, OARCRADLER_LINES, factors, sizeof factors, books,
-        sizeof books, answer, sizeof answer);
+    static int16_t lines[OARCRADLER_SIZE_LINES];
+    static struct oarcradler_factors factors;
+    static struct oarcradler_books books;
+    uint8_t answer[OARCRADLER_SIZE_CHANNEL];
+    uint32_t number = oarcradler_read_channel(image, size, start, end, index, lines, OARCRADLER_SIZE_LINES, &factors, sizeof factors,
+        &books, sizeof books, answer, sizeof answer);
     if (number != OARCRADLER_DONE)
         return printf("%u channel refused %u\n", (unsigned)k, (unsigned)number) >= 0;
-    return printf("%u channel gain %u lines %u bits %u\n", (unsigned)k, (unsigned)answer[OARCRADLER_CHANNEL_GAIN], count_set(lines),
-        (unsigned)oarcradler_word(answer + OARCRADLER_CHANNEL_BITS)) >= 0;
+    return printf("%u channel gain %u lines %u bits %u\n", (unsigned)k, (unsigned)answer[OARCRADLER_AT_CHANNEL_GAIN], count_set(lines),
+        (unsigned)oarcradler_word(answer + OARCRADLER_AT_CHANNEL_BITS)) >= 0;
 }
 
 /* An odd payload is stereo. A refused one leaves the state out of step, so it is not reported missing. Whether its line was printed. */
 static int play_stereo(uint32_t k, size_t size, uint32_t start, uint32_t end, uint8_t *state)
 {
-    uint8_t answer[OARCRADLER_STEREO];
-    uint32_t number = oarcradler_read_stereo(state, OARCRADLER_STATE, image, size, start, end, answer, sizeof answer);
+    uint8_t answer[OARCRADLER_SIZE_STEREO];
+    uint32_t number = oarcradler_read_stereo(state, OARCRADLER_SIZE_STATE, image, size, start, end, answer, sizeof answer);
     if (number != OARCRADLER_DONE)
         return printf("%u stereo refused %u\n", (unsigned)k, (unsigned)number) >= 0;
-    return printf("%u stereo envelopes %u bits %u\n", (unsigned)k, (unsigned)answer[OARCRADLER_STEREO_ENVELOPES],
-        (unsigned)oarcradler_word(answer + OARCRADLER_STEREO_BITS)) >= 0;
+    return printf("%u stereo envelopes %u bits %u\n", (unsigned)k, (unsigned)answer[OARCRADLER_AT_STEREO_ENVELOPES],
+        (unsigned)oarcradler_word(answer + OARCRADLER_AT_STEREO_BITS)) >= 0;
 }
 
 /* Every payload of an image whose header is sound, up to a line that is not printed. Whether all were. */
 static int play_payloads(size_t size, uint32_t count, uint32_t index)
 {
-    uint8_t state[OARCRADLER_STATE], part[OARCRADLER_PART];
-    oarcradler_fresh_state(state, sizeof state);
+    uint8_t state[OARCRADLER_SIZE_STATE], part[OARCRADLER_SIZE_PART];
+    if (oarcradler_fresh_state(state, sizeof state) != OARCRADLER_DONE)
+        return 0;
     for (uint32_t k = 0; k < count; k++) {
         if (oarcradler_find_part(image, size, k, part, sizeof part) != OARCRADLER_DONE)
             return 0;
-        uint32_t start = oarcradler_word(part + OARCRADLER_PART_START), end = oarcradler_word(part + OARCRADLER_PART_END);
+        uint32_t start = oarcradler_word(part + OARCRADLER_AT_PART_START), end = oarcradler_word(part + OARCRADLER_AT_PART_END);
         if (!(k % 2 == 0 ? play_channel(k, size, start, end, index) : play_stereo(k, size, start, end, state)))
             return 0;
     }
@@ -60,14 +60,14 @@ static int play_payloads(size_t size, uint32_t count, uint32_t index)
 /* An image; one whose header is unsound is refused as a whole. Whether every line was printed. */
 static int play_image(size_t size)
 {
-    uint8_t header[OARCRADLER_HEADER];
+    uint8_t header[OARCRADLER_SIZE_HEADER];
     uint32_t number = oarcradler_read_header(image, size, header, sizeof header);
     if (number != OARCRADLER_DONE)
         return printf("image refused %u\n", (unsigned)number) >= 0;
-    uint32_t count = oarcradler_word(header + OARCRADLER_HEADER_COUNT);
+    uint32_t count = oarcradler_word(header + OARCRADLER_AT_HEADER_COUNT);
     if (printf("payloads %u\n", (unsigned)count) < 0)
         return 0;
-    return play_payloads(size, count, oarcradler_word(header + OARCRADLER_HEADER_INDEX));
+    return play_payloads(size, count, oarcradler_word(header + OARCRADLER_AT_HEADER_INDEX));
 }
 
 /* Input that cannot be read is no image, and lines that are lost are told: each with a sentence on standard error and status 1. */

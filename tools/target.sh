@@ -1,7 +1,17 @@
-# target.sh: what the scripts share about target/: the kit that fills it, the lock on it, the prover's account, and whether a program in it
-# is made of the sources as they are. It is read in (. tools/target.sh) at the top of the checkout, where $me is the script's name.
+# target.sh: what the scripts share about target/: the kit that fills it, the lock on it, the prover's account, the processors, and whether
+# a program in it is made of the sources as they are. It is read in (. tools/target.sh) at the top of the checkout, where $me is the
+# script's name.
 
 top=$(pwd -P)
+processors='x86-64 aarch64 armv7 thumbv7em thumbv7emhf'
+
+# archive_of PROCESSOR: its archive of the functions for C.
+archive_of() {
+    case $1 in
+    x86-64) echo target/liboarcradler.a ;;
+    *) echo "target/$1/liboarcradler.a" ;;
+    esac
+}
 
 # say WORDS: a line on standard error.
 say() {
@@ -52,6 +62,12 @@ lock_by_link() {
     done
     trap 'rm -f "$top/.target.lock"' EXIT
     trap 'exit 130' HUP INT TERM
+}
+
+# clean_commit: the commit that this checkout is; nothing where it is none, or where it is not clean.
+clean_commit() {
+    [ -e .git ] && command -v git >/dev/null 2>&1 || return 0
+    changed=$(git status --porcelain 2>&1) && [ -z "$changed" ] && git rev-parse HEAD 2>/dev/null
 }
 
 # crates_of NAME..: these crates and all that they are made of, a line each, as crates.txt has it.

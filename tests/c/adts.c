@@ -10,8 +10,10 @@ enum { HEADER_BYTES = 7, FIRST_BIT = 63 };
 /* What read_channel, or read_frame and unwrap_frame, left of a stream. */
 struct found {
     uint32_t number;
-    int16_t lines[OARCRADLER_LINES];
-    uint8_t factors[OARCRADLER_FACTORS], books[OARCRADLER_BOOKS], answer[OARCRADLER_FRAME], stream[OARCRADLER_STREAM_MOST];
+    int16_t lines[OARCRADLER_SIZE_LINES];
+    struct oarcradler_factors factors;
+    struct oarcradler_books books;
+    uint8_t answer[OARCRADLER_SIZE_FRAME], stream[OARCRADLER_MOST_STREAM];
 };
 
 static struct frame_call frame;
@@ -21,7 +23,7 @@ static struct wrap_call wrap;
 /* How many bytes the bits of an answer take. */
 static size_t stream_size(const uint8_t *answer)
 {
-    return (oarcradler_word(answer + OARCRADLER_CHANNEL_BITS) + 7) / 8;
+    return (oarcradler_word(answer + OARCRADLER_AT_CHANNEL_BITS) + 7) / 8;
 }
 
 /* A bit of some bytes. */
@@ -63,11 +65,11 @@ static void lend_file(const uint8_t *bytes, size_t size, size_t before, size_t a
 /* Outputs so much longer than needed, but for the stream, which has this room. */
 static void lend_outputs(size_t longer, size_t room, unsigned seed)
 {
-    lend(&frame.lines, (OARCRADLER_LINES + longer) * sizeof(int16_t), seed + 1);
-    lend(&frame.factors, OARCRADLER_FACTORS + longer, seed + 2);
-    lend(&frame.books, OARCRADLER_BOOKS + longer, seed + 3);
-    lend(&frame.answer, OARCRADLER_FRAME + longer, seed + 4);
-    lend(&unwrap.answer, OARCRADLER_FRAME + longer, seed + 5);
+    lend(&frame.lines, (OARCRADLER_SIZE_LINES + longer) * sizeof(int16_t), seed + 1);
+    lend(&frame.factors, OARCRADLER_SIZE_FACTORS + longer, seed + 2);
+    lend(&frame.books, OARCRADLER_SIZE_BOOKS + longer, seed + 3);
+    lend(&frame.answer, OARCRADLER_SIZE_FRAME + longer, seed + 4);
+    lend(&unwrap.answer, OARCRADLER_SIZE_FRAME + longer, seed + 5);
     lend(&unwrap.out, room, seed + 6);
 }
 
@@ -77,19 +79,19 @@ static uint32_t read_and_cut(size_t start)
     uint32_t number = call_read_frame(&frame, start);
     expect_number(call_unwrap_frame(&unwrap, start), number, "unwrap_frame: not the number of read_frame");
     if (number == 0)
-        expect(memcmp(bytes_of(&frame.answer), bytes_of(&unwrap.answer), OARCRADLER_FRAME) == 0, "unwrap_frame: not the answer of read_frame");
+        expect(memcmp(bytes_of(&frame.answer), bytes_of(&unwrap.answer), OARCRADLER_SIZE_FRAME) == 0, "unwrap_frame: not the answer of read_frame");
     return number;
 }
 
 /* What is left of a frame that was read and cut. */
 static struct found found_frame(uint32_t number)
 {
-    struct found found = { number, { 0 }, { 0 }, { 0 }, { 0 }, { 0 } };
+    struct found found = { .number = number };
     if (number != 0)
         return found;
     memcpy(found.lines, bytes_of(&frame.lines), sizeof found.lines);
-    memcpy(found.factors, bytes_of(&frame.factors), sizeof found.factors);
-    memcpy(found.books, bytes_of(&frame.books), sizeof found.books);
+    memcpy(&found.factors, bytes_of(&frame.factors), sizeof found.factors);
+    memcpy(&found.books, bytes_of(&frame.books), sizeof found.books);
     memcpy(found.answer, bytes_of(&frame.answer), sizeof found.answer);
     memcpy(found.stream, bytes_of(&unwrap.out), stream_size(found.answer));
     return found;
@@ -99,10 +101,10 @@ static struct found found_frame(uint32_t number)
 static struct found read_twice(const uint8_t *bytes, size_t size, unsigned seed)
 {
     lend_file(bytes, size, 5, 3, seed);
-    lend_outputs(0, OARCRADLER_STREAM_MOST, seed);
+    lend_outputs(0, OARCRADLER_MOST_STREAM, seed);
     struct found one = found_frame(read_and_cut(5));
     lend_file(bytes, size, 0, 0, seed + 10);
-    lend_outputs(9, OARCRADLER_STREAM_MOST, seed + 10);
+    lend_outputs(9, OARCRADLER_MOST_STREAM, seed + 10);
     struct found two = found_frame(read_and_cut(0));
     expect(memcmp(&one, &two, sizeof one) == 0, "read_frame, unwrap_frame: bytes outside the frame count, or a byte was not written");
     return two;
@@ -135,18 +137,18 @@ static void test_short_outputs(size_t size)
     for (int which = 0; which < 4; which++) {
         lend_outputs(0, 0, 50);
         if (which == 0)
-            lend(&frame.lines, (OARCRADLER_LINES - 1) * sizeof(int16_t), 51);
+            lend(&frame.lines, (OARCRADLER_SIZE_LINES - 1) * sizeof(int16_t), 51);
         else if (which == 1)
-            lend(&frame.factors, OARCRADLER_FACTORS - 1, 52);
+            lend(&frame.factors, OARCRADLER_SIZE_FACTORS - 1, 52);
         else if (which == 2)
-            lend(&frame.books, OARCRADLER_BOOKS - 1, 53);
+            lend(&frame.books, OARCRADLER_SIZE_BOOKS - 1, 53);
         else
-            lend(&frame.answer, OARCRADLER_FRAME - 1, 54);
+            lend(&frame.answer, OARCRADLER_SIZE_FRAME - 1, 54);
         expect_number(call_read_frame(&frame, 0), 2, "read_frame: an output one too short");
         expect_number(call_read_frame(&frame, size), 2, "read_frame: an output one too short at the file's end");
         expect_number(call_read_frame(&frame, size + 1), 1, "read_frame: an output one too short, and a start past the file");
     }
-    lend(&unwrap.answer, OARCRADLER_FRAME - 1, 55);
+    lend(&unwrap.answer, OARCRADLER_SIZE_FRAME - 1, 55);
     expect_number(call_unwrap_frame(&unwrap, 0), 2, "unwrap_frame: an answer one too short");
     expect_number(call_unwrap_frame(&unwrap, size), 2, "unwrap_frame: an answer one too short at the file's end");
     expect_number(call_unwrap_frame(&unwrap, size + 1), 1, "unwrap_frame: an answer one too short, and a start past the file");
@@ -166,11 +168,11 @@ static void test_refusals(const struct found *known, size_t size)
 /* What read_channel says of a payload, and the bits that it used. */
 static struct found read_payload(const uint8_t *payload, size_t size, uint32_t index)
 {
-    struct found found = { 0, { 0 }, { 0 }, { 0 }, { 0 }, { 0 } };
-    found.number = oarcradler_read_channel(payload, size, 0, (uint32_t)size, index, found.lines, OARCRADLER_LINES, found.factors,
-        sizeof found.factors, found.books, sizeof found.books, found.answer, OARCRADLER_CHANNEL);
+    struct found found = { .number = 0 };
+    found.number = oarcradler_read_channel(payload, size, 0, (uint32_t)size, index, found.lines, OARCRADLER_SIZE_LINES, &found.factors,
+        sizeof found.factors, &found.books, sizeof found.books, found.answer, OARCRADLER_SIZE_CHANNEL);
     if (found.number == 0)
-        copy_bits(found.stream, 0, payload, 0, oarcradler_word(found.answer + OARCRADLER_CHANNEL_BITS));
+        copy_bits(found.stream, 0, payload, 0, oarcradler_word(found.answer + OARCRADLER_AT_CHANNEL_BITS));
     return found;
 }
 
@@ -180,19 +182,19 @@ static void lend_payload(const uint8_t *payload, size_t size, size_t around, siz
     lend(&wrap.buffer, around + size + around, seed);
     memcpy(bytes_of(&wrap.buffer) + around, payload, size);
     lend(&wrap.out, room, seed + 1);
-    lend(&wrap.answer, OARCRADLER_WRAPPED + around, seed + 2);
+    lend(&wrap.answer, OARCRADLER_SIZE_WRAPPED + around, seed + 2);
 }
 
 /* The frame that wraps a payload, which the rules give, in room that is more than enough, enough, and one byte short. */
 static void test_wrapping(const uint8_t *payload, size_t size, uint32_t index, const uint8_t *ruled, size_t length)
 {
-    const size_t rooms[] = { OARCRADLER_FRAME_MOST, length };
-    expect(length <= OARCRADLER_FRAME_MOST, "wrap_stream: a frame longer than any");
+    const size_t rooms[] = { OARCRADLER_MOST_WRAPPED, length };
+    expect(length <= OARCRADLER_MOST_WRAPPED, "wrap_stream: a frame longer than any");
     for (size_t k = 0; k < sizeof rooms / sizeof *rooms; k++) {
         size_t around = 3 * k;
         lend_payload(payload, size, around, rooms[k], 60 + (unsigned)k);
         expect_number(call_wrap_stream(&wrap, (uint32_t)around, (uint32_t)(around + size), index), 0, "wrap_stream of an accepted stream");
-        expect_number(oarcradler_word(bytes_of(&wrap.answer) + OARCRADLER_WRAPPED_LENGTH), (uint32_t)length, "wrap_stream: the frame's length");
+        expect_number(oarcradler_word(bytes_of(&wrap.answer) + OARCRADLER_AT_WRAPPED_LENGTH), (uint32_t)length, "wrap_stream: the frame's length");
         expect(memcmp(bytes_of(&wrap.out), ruled, length) == 0, "wrap_stream: not the frame of the rules");
     }
     lend_payload(payload, size, 0, length - 1, 62);
@@ -206,11 +208,11 @@ static void test_read_back(const struct found *known, uint32_t index, const uint
     struct found found = read_twice(ruled, length, 70);
     expect_number(found.number, 0, "read_frame of a frame that wraps a stream");
     expect(memcmp(found.lines, known->lines, sizeof found.lines) == 0, "read_frame: other lines than read_channel");
-    expect(memcmp(found.factors, known->factors, sizeof found.factors) == 0, "read_frame: other scale factors than read_channel");
-    expect(memcmp(found.books, known->books, sizeof found.books) == 0, "read_frame: other books than read_channel");
-    expect(memcmp(found.answer, known->answer, OARCRADLER_CHANNEL) == 0, "read_frame: other numbers than read_channel");
-    expect_number(oarcradler_word(found.answer + OARCRADLER_FRAME_LENGTH), (uint32_t)length, "read_frame: the frame's length");
-    expect_number(found.answer[OARCRADLER_FRAME_INDEX], index, "read_frame: the sampling index");
+    expect(memcmp(&found.factors, &known->factors, sizeof found.factors) == 0, "read_frame: other scale factors than read_channel");
+    expect(memcmp(&found.books, &known->books, sizeof found.books) == 0, "read_frame: other books than read_channel");
+    expect(memcmp(found.answer, known->answer, OARCRADLER_SIZE_CHANNEL) == 0, "read_frame: other numbers than read_channel");
+    expect_number(oarcradler_word(found.answer + OARCRADLER_AT_FRAME_LENGTH), (uint32_t)length, "read_frame: the frame's length");
+    expect_number(found.answer[OARCRADLER_AT_FRAME_INDEX], index, "read_frame: the sampling index");
     expect(memcmp(found.stream, known->stream, sizeof found.stream) == 0, "unwrap_frame: other bits than the payload's");
     size_t needed = stream_size(found.answer);
     const size_t rooms[] = { needed, needed - 1 };
@@ -227,7 +229,8 @@ static void test_wrap_refusals(const uint8_t *payload, size_t size, uint32_t ind
     expect_number(call_wrap_stream(&wrap, 0, end + 1, index), 1, "wrap_stream: end past the buffer");
     expect_number(call_wrap_stream(&wrap, 1, 0, index), 1, "wrap_stream: start after end");
     expect_number(call_wrap_stream(&wrap, UINT32_MAX, UINT32_MAX, 5), 1, "wrap_stream: start at 2^32 - 1, and no index");
-    lend(&wrap.answer, OARCRADLER_WRAPPED - 1, 83);
+    expect_number(call_wrap_stream(&wrap, PAST_32_BITS, PAST_32_BITS + end, index), 1, "wrap_stream: 2^32 further on");
+    lend(&wrap.answer, OARCRADLER_SIZE_WRAPPED - 1, 83);
     expect_number(call_wrap_stream(&wrap, 0, end, 5), 2, "wrap_stream: an answer one too short, and no index");
     expect_number(call_wrap_stream(&wrap, 0, end, index), 2, "wrap_stream: an answer one too short");
     expect_number(call_wrap_stream(&wrap, 1, 0, index), 1, "wrap_stream: an answer one too short, and start after end");
@@ -235,10 +238,10 @@ static void test_wrap_refusals(const uint8_t *payload, size_t size, uint32_t ind
 
 void test_wrapped_payload(const uint8_t *payload, size_t size, uint32_t index)
 {
-    static uint8_t ruled[OARCRADLER_FRAME_MOST];
+    static uint8_t ruled[OARCRADLER_MOST_WRAPPED];
     struct found known = read_payload(payload, size, index);
     if (known.number == 0) {
-        size_t length = ruled_frame(ruled, known.stream, oarcradler_word(known.answer + OARCRADLER_CHANNEL_BITS), index);
+        size_t length = ruled_frame(ruled, known.stream, oarcradler_word(known.answer + OARCRADLER_AT_CHANNEL_BITS), index);
         test_wrapping(payload, size, index, ruled, length);
         test_read_back(&known, index, ruled, length);
     }
@@ -269,7 +272,7 @@ static void test_altered(void)
         memcpy(copy, silent, sizeof copy);
         copy[altered[k].place] = altered[k].value;
         lend_file(copy, sizeof copy, 0, 0, 90);
-        lend_outputs(0, OARCRADLER_STREAM_MOST, 90);
+        lend_outputs(0, OARCRADLER_MOST_STREAM, 90);
         struct found found = found_frame(read_and_cut(0));
         expect_number(found.number, altered[k].number, "read_frame of a known frame with a byte altered");
         test_refusals(&found, sizeof copy);
@@ -288,7 +291,7 @@ static void test_lengths(void)
         copy[4] = (uint8_t)(length >> 3);
         copy[5] = (uint8_t)(length << 5 | 0x1f);
         lend_file(copy, sizeof copy, 0, 0, 95);
-        lend_outputs(0, OARCRADLER_STREAM_MOST, 95);
+        lend_outputs(0, OARCRADLER_MOST_STREAM, 95);
         uint32_t number = length < HEADER_BYTES || length > sizeof copy ? 52 : length < sizeof copy ? 10 : 0;
         expect_number(read_and_cut(0), number, "read_frame, unwrap_frame: a frame length");
     }
@@ -303,7 +306,7 @@ static void test_longer(void)
         copy[5] = 0x9f;
         copy[sizeof silent] = (uint8_t)fill;
         lend_file(copy, sizeof copy, 0, 0, 100);
-        lend_outputs(0, OARCRADLER_STREAM_MOST, 100);
+        lend_outputs(0, OARCRADLER_MOST_STREAM, 100);
         expect_number(read_and_cut(0), 12, "read_frame, unwrap_frame: eight bits after the end element");
     }
 }
@@ -317,7 +320,7 @@ static void test_cut_files(void)
     memcpy(file + 2 * sizeof silent, silent, sizeof silent);
     for (size_t size = 0; size <= sizeof file; size++) {
         lend_file(file, size, 0, 0, 110);
-        lend_outputs(0, OARCRADLER_STREAM_MOST, 110);
+        lend_outputs(0, OARCRADLER_MOST_STREAM, 110);
         for (size_t start = 0; start < sizeof file; start += sizeof silent) {
             size_t left = size - start;
             uint32_t number = start > size ? 1 : left < HEADER_BYTES ? 10 : left < sizeof silent ? 52 : 0;
@@ -334,10 +337,10 @@ static void test_starts(void)
     memcpy(file + sizeof free_silent, silent, sizeof silent);
     for (size_t start = 0; start <= sizeof file; start++) {
         lend_file(file, sizeof file, 0, 0, 120);
-        lend_outputs(0, OARCRADLER_STREAM_MOST, 120);
+        lend_outputs(0, OARCRADLER_MOST_STREAM, 120);
         struct found inside = found_frame(read_and_cut(start));
         lend_file(file + start, sizeof file - start, 0, 0, 121);
-        lend_outputs(0, OARCRADLER_STREAM_MOST, 121);
+        lend_outputs(0, OARCRADLER_MOST_STREAM, 121);
         struct found alone = found_frame(read_and_cut(0));
         expect(memcmp(&inside, &alone, sizeof inside) == 0, "read_frame, unwrap_frame: bytes before the start count");
         expect((inside.number == 0) == (start == 0 || start == sizeof silent), "read_frame, unwrap_frame: a start that is no frame's");
@@ -363,8 +366,8 @@ static void test_silent(const uint8_t *bytes, const uint8_t *answer, const uint8
 
 void test_known_frame(void)
 {
-    static const uint8_t answer[OARCRADLER_FRAME] = { 0, 0, 0, 22, 100, 0, 0, 0, 1, 1, 0, 0, 0, 0, 0, 0, 0, 0, 0, 0, 11, 6 };
-    static const uint8_t free_answer[OARCRADLER_FRAME] = { 0, 0, 0, 22, 255, 0, 0, 0, 1, 1, 0, 0, 0, 0, 0, 0, 0, 0, 0, 0, 11, 6 };
+    static const uint8_t answer[OARCRADLER_SIZE_FRAME] = { 0, 0, 0, 22, 100, 0, 0, 0, 1, 1, 0, 0, 0, 0, 0, 0, 0, 0, 0, 0, 11, 6 };
+    static const uint8_t free_answer[OARCRADLER_SIZE_FRAME] = { 0, 0, 0, 22, 255, 0, 0, 0, 1, 1, 0, 0, 0, 0, 0, 0, 0, 0, 0, 0, 11, 6 };
     static const uint8_t stream[] = { 100, 0, 0 }, free_stream[] = { 255, 0, 0 };
     test_silent(silent, answer, stream);
     test_silent(free_silent, free_answer, free_stream);

@@ -10,13 +10,24 @@ static int is_one_of(uint32_t number, const uint32_t *list)
     return *list == number;
 }
 
+/* A lent buffer as scale factors, and as books. */
+static struct oarcradler_factors *factors_of(struct lent *lent)
+{
+    return (struct oarcradler_factors *)bytes_of(lent);
+}
+
+static struct oarcradler_books *books_of(struct lent *lent)
+{
+    return (struct oarcradler_books *)bytes_of(lent);
+}
+
 uint32_t call_fresh(struct lent *state)
 {
     remember(state);
     uint32_t number = oarcradler_fresh_state(bytes_of(state), state->size);
-    calls++;
+    called(number);
     expect(number == 0 || number == 2, "fresh_state: a number that it never gives");
-    expect(same_but(state, 0, number == 0 ? OARCRADLER_STATE : 0), "fresh_state: a byte was changed that is not its own");
+    expect(same_but(state, 0, number == 0 ? OARCRADLER_SIZE_STATE : 0), "fresh_state: a byte was changed that is not its own");
     return number;
 }
 
@@ -24,7 +35,7 @@ uint32_t call_missing(struct lent *state)
 {
     remember(state);
     uint32_t number = oarcradler_report_missing(bytes_of(state), state->size);
-    calls++;
+    called(number);
     expect(number == 0 || number == 4, "report_missing: a number that it never gives");
     if (number == 0) {
         expect(same_but(state, 5, 6), "report_missing: a byte besides the mark was changed");
@@ -35,18 +46,18 @@ uint32_t call_missing(struct lent *state)
     return number;
 }
 
-uint32_t call_read_stereo(struct stereo_call *call, uint32_t start, uint32_t end)
+uint32_t call_read_stereo(struct stereo_call *call, uint64_t start, uint64_t end)
 {
     static const uint32_t numbers[] = { 1, 2, 4, 10, 12, 13, 31, 32, 33, 34, 35, 0 };
     remember(&call->state), remember(&call->buffer), remember(&call->answer);
     uint32_t number = oarcradler_read_stereo(bytes_of(&call->state), call->state.size, bytes_of(&call->buffer), call->buffer.size, start, end,
         bytes_of(&call->answer), call->answer.size);
-    calls++;
+    called(number);
     expect(is_one_of(number, numbers), "read_stereo: a number that it never gives");
     expect(same(&call->buffer), "read_stereo: the buffer was changed");
     if (number == 0) {
-        expect(same_but(&call->state, 0, OARCRADLER_STATE), "read_stereo: a byte outside the state was changed");
-        expect(same_but(&call->answer, 0, OARCRADLER_STEREO), "read_stereo: a byte outside the answer was changed");
+        expect(same_but(&call->state, 0, OARCRADLER_SIZE_STATE), "read_stereo: a byte outside the state was changed");
+        expect(same_but(&call->answer, 0, OARCRADLER_SIZE_STEREO), "read_stereo: a byte outside the answer was changed");
         return number;
     }
     expect(same(&call->answer), "read_stereo: a refusal touched the answer");
@@ -62,38 +73,39 @@ uint32_t call_read_stereo(struct stereo_call *call, uint32_t start, uint32_t end
 uint32_t call_write_stereo(struct write_call *call)
 {
     static const uint32_t numbers[] = { 2, 4, 35, 40, 0 };
-    remember(&call->state), remember(&call->contents), remember(&call->out);
+    remember(&call->state), remember(&call->contents), remember(&call->out), remember(&call->answer);
     uint32_t number = oarcradler_write_stereo(bytes_of(&call->state), call->state.size, bytes_of(&call->contents), call->contents.size,
-        bytes_of(&call->out), call->out.size);
-    calls++;
+        bytes_of(&call->out), call->out.size, bytes_of(&call->answer), call->answer.size);
+    called(number);
     expect(is_one_of(number, numbers), "write_stereo: a number that it never gives");
+    expect(same(&call->contents), "write_stereo: the contents were changed");
     if (number == 0) {
-        size_t size = (oarcradler_word(bytes_of(&call->contents)) + 7) / 8;
+        size_t size = (oarcradler_word(bytes_of(&call->answer) + OARCRADLER_AT_WRITTEN_BITS) + 7) / 8;
         expect(size <= call->out.size, "write_stereo: more bits than the output holds");
-        expect(same_but(&call->state, 0, OARCRADLER_STATE), "write_stereo: a byte outside the state was changed");
-        expect(same_but(&call->contents, 0, 4), "write_stereo: a byte of the contents besides the bit count was changed");
+        expect(same_but(&call->state, 0, OARCRADLER_SIZE_STATE), "write_stereo: a byte outside the state was changed");
+        expect(same_but(&call->answer, 0, OARCRADLER_SIZE_WRITTEN), "write_stereo: a byte outside the answer was changed");
         expect(same_but(&call->out, 0, size), "write_stereo: a byte past the payload was changed");
     } else {
-        expect(same(&call->state) && same(&call->contents) && same(&call->out), "write_stereo: a refusal touched a buffer");
+        expect(same(&call->state) && same(&call->out) && same(&call->answer), "write_stereo: a refusal touched a buffer");
     }
     return number;
 }
 
-uint32_t call_read_channel(struct channel_call *call, uint32_t start, uint32_t end, uint32_t index)
+uint32_t call_read_channel(struct channel_call *call, uint64_t start, uint64_t end, uint32_t index)
 {
     static const uint32_t numbers[] = { 1, 2, 3, 10, 12, 13, 20, 21, 22, 23, 24, 25, 26, 0 };
     remember(&call->buffer), remember(&call->lines), remember(&call->factors), remember(&call->books), remember(&call->answer);
     uint32_t number = oarcradler_read_channel(bytes_of(&call->buffer), call->buffer.size, start, end, index,
-        (int16_t *)(void *)bytes_of(&call->lines), call->lines.size / sizeof(int16_t), bytes_of(&call->factors), call->factors.size,
-        bytes_of(&call->books), call->books.size, bytes_of(&call->answer), call->answer.size);
+        (int16_t *)(void *)bytes_of(&call->lines), call->lines.size / sizeof(int16_t), factors_of(&call->factors), call->factors.size,
+        books_of(&call->books), call->books.size, bytes_of(&call->answer), call->answer.size);
     int done = number == 0;
-    calls++;
+    called(number);
     expect(is_one_of(number, numbers), "read_channel: a number that it never gives");
     expect(same(&call->buffer), "read_channel: the buffer was changed");
-    expect(same_but(&call->lines, 0, done ? OARCRADLER_LINES * sizeof(int16_t) : 0), "read_channel: a byte was changed that is no line");
-    expect(same_but(&call->factors, 0, done ? OARCRADLER_FACTORS : 0), "read_channel: a byte was changed that is no scale factor");
-    expect(same_but(&call->books, 0, done ? OARCRADLER_BOOKS : 0), "read_channel: a byte was changed that is no book");
-    expect(same_but(&call->answer, 0, done ? OARCRADLER_CHANNEL : 0), "read_channel: a byte was changed that is not the answer's");
+    expect(same_but(&call->lines, 0, done ? OARCRADLER_SIZE_LINES * sizeof(int16_t) : 0), "read_channel: a byte was changed that is no line");
+    expect(same_but(&call->factors, 0, done ? OARCRADLER_SIZE_FACTORS : 0), "read_channel: a byte was changed that is no scale factor");
+    expect(same_but(&call->books, 0, done ? OARCRADLER_SIZE_BOOKS : 0), "read_channel: a byte was changed that is no book");
+    expect(same_but(&call->answer, 0, done ? OARCRADLER_SIZE_CHANNEL : 0), "read_channel: a byte was changed that is not the answer's");
     return number;
 }
 
@@ -102,10 +114,10 @@ uint32_t call_read_header(struct image_call *call)
     static const uint32_t numbers[] = { 2, 3, 5, 0 };
     remember(&call->image), remember(&call->answer);
     uint32_t number = oarcradler_read_header(bytes_of(&call->image), call->image.size, bytes_of(&call->answer), call->answer.size);
-    calls++;
+    called(number);
     expect(is_one_of(number, numbers), "read_header: a number that it never gives");
     expect(same(&call->image), "read_header: the image was changed");
-    expect(same_but(&call->answer, 0, number == 0 ? OARCRADLER_HEADER : 0), "read_header: a byte was changed that is not the answer's");
+    expect(same_but(&call->answer, 0, number == 0 ? OARCRADLER_SIZE_HEADER : 0), "read_header: a byte was changed that is not the answer's");
     return number;
 }
 
@@ -114,10 +126,10 @@ uint32_t call_find_part(struct image_call *call, uint32_t k)
     static const uint32_t numbers[] = { 1, 2, 3, 5, 0 };
     remember(&call->image), remember(&call->answer);
     uint32_t number = oarcradler_find_part(bytes_of(&call->image), call->image.size, k, bytes_of(&call->answer), call->answer.size);
-    calls++;
+    called(number);
     expect(is_one_of(number, numbers), "find_part: a number that it never gives");
     expect(same(&call->image), "find_part: the image was changed");
-    expect(same_but(&call->answer, 0, number == 0 ? OARCRADLER_PART : 0), "find_part: a byte was changed that is not the answer's");
+    expect(same_but(&call->answer, 0, number == 0 ? OARCRADLER_SIZE_PART : 0), "find_part: a byte was changed that is not the answer's");
     return number;
 }
 
@@ -128,16 +140,16 @@ uint32_t call_read_frame(struct frame_call *call, size_t start)
 {
     remember(&call->file), remember(&call->lines), remember(&call->factors), remember(&call->books), remember(&call->answer);
     uint32_t number = oarcradler_read_frame(bytes_of(&call->file), call->file.size, start, (int16_t *)(void *)bytes_of(&call->lines),
-        call->lines.size / sizeof(int16_t), bytes_of(&call->factors), call->factors.size, bytes_of(&call->books), call->books.size,
+        call->lines.size / sizeof(int16_t), factors_of(&call->factors), call->factors.size, books_of(&call->books), call->books.size,
         bytes_of(&call->answer), call->answer.size);
     int done = number == 0;
-    calls++;
+    called(number);
     expect(is_one_of(number, frame_numbers), "read_frame: a number that it never gives");
     expect(same(&call->file), "read_frame: the file was changed");
-    expect(same_but(&call->lines, 0, done ? OARCRADLER_LINES * sizeof(int16_t) : 0), "read_frame: a byte was changed that is no line");
-    expect(same_but(&call->factors, 0, done ? OARCRADLER_FACTORS : 0), "read_frame: a byte was changed that is no scale factor");
-    expect(same_but(&call->books, 0, done ? OARCRADLER_BOOKS : 0), "read_frame: a byte was changed that is no book");
-    expect(same_but(&call->answer, 0, done ? OARCRADLER_FRAME : 0), "read_frame: a byte was changed that is not the answer's");
+    expect(same_but(&call->lines, 0, done ? OARCRADLER_SIZE_LINES * sizeof(int16_t) : 0), "read_frame: a byte was changed that is no line");
+    expect(same_but(&call->factors, 0, done ? OARCRADLER_SIZE_FACTORS : 0), "read_frame: a byte was changed that is no scale factor");
+    expect(same_but(&call->books, 0, done ? OARCRADLER_SIZE_BOOKS : 0), "read_frame: a byte was changed that is no book");
+    expect(same_but(&call->answer, 0, done ? OARCRADLER_SIZE_FRAME : 0), "read_frame: a byte was changed that is not the answer's");
     return number;
 }
 
@@ -146,34 +158,34 @@ uint32_t call_unwrap_frame(struct unwrap_call *call, size_t start)
     remember(&call->file), remember(&call->out), remember(&call->answer);
     uint32_t number = oarcradler_unwrap_frame(bytes_of(&call->file), call->file.size, start, bytes_of(&call->out), call->out.size,
         bytes_of(&call->answer), call->answer.size);
-    calls++;
+    called(number);
     expect(is_one_of(number, frame_numbers), "unwrap_frame: a number that it never gives");
     expect(same(&call->file), "unwrap_frame: the file was changed");
     if (number == 0) {
-        size_t size = (oarcradler_word(bytes_of(&call->answer) + OARCRADLER_CHANNEL_BITS) + 7) / 8;
+        size_t size = (oarcradler_word(bytes_of(&call->answer) + OARCRADLER_AT_CHANNEL_BITS) + 7) / 8;
         expect(size <= call->out.size, "unwrap_frame: more bits than the output holds");
         expect(same_but(&call->out, 0, size), "unwrap_frame: a byte past the stream was changed");
-        expect(same_but(&call->answer, 0, OARCRADLER_FRAME), "unwrap_frame: a byte outside the answer was changed");
+        expect(same_but(&call->answer, 0, OARCRADLER_SIZE_FRAME), "unwrap_frame: a byte outside the answer was changed");
     } else {
         expect(same(&call->out) && same(&call->answer), "unwrap_frame: a refusal touched a buffer");
     }
     return number;
 }
 
-uint32_t call_wrap_stream(struct wrap_call *call, uint32_t start, uint32_t end, uint32_t index)
+uint32_t call_wrap_stream(struct wrap_call *call, uint64_t start, uint64_t end, uint32_t index)
 {
     static const uint32_t numbers[] = { 1, 2, 3, 10, 12, 13, 20, 21, 22, 23, 24, 25, 26, 0 };
     remember(&call->buffer), remember(&call->out), remember(&call->answer);
     uint32_t number = oarcradler_wrap_stream(bytes_of(&call->buffer), call->buffer.size, start, end, index, bytes_of(&call->out),
         call->out.size, bytes_of(&call->answer), call->answer.size);
-    calls++;
+    called(number);
     expect(is_one_of(number, numbers), "wrap_stream: a number that it never gives");
     expect(same(&call->buffer), "wrap_stream: the buffer was changed");
     if (number == 0) {
-        size_t size = oarcradler_word(bytes_of(&call->answer) + OARCRADLER_WRAPPED_LENGTH);
+        size_t size = oarcradler_word(bytes_of(&call->answer) + OARCRADLER_AT_WRAPPED_LENGTH);
         expect(size <= call->out.size, "wrap_stream: more bytes than the output holds");
         expect(same_but(&call->out, 0, size), "wrap_stream: a byte past the frame was changed");
-        expect(same_but(&call->answer, 0, OARCRADLER_WRAPPED), "wrap_stream: a byte outside the answer was changed");
+        expect(same_but(&call->answer, 0, OARCRADLER_SIZE_WRAPPED), "wrap_stream: a byte outside the answer was changed");
     } else {
         expect(same(&call->out) && same(&call->answer), "wrap_stream: a refusal touched a buffer");
     }

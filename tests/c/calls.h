@@ -5,12 +5,15 @@
 
 #include "lent.h"
 
+/* An offset that 32 bits would cut to 0. */
+#define PAST_32_BITS ((uint64_t)1 << 32)
+
 struct stereo_call {
     struct lent state, buffer, answer;
 };
 
 struct write_call {
-    struct lent state, contents, out;
+    struct lent state, contents, out, answer;
 };
 
 struct channel_call {
@@ -38,11 +41,11 @@ uint32_t call_fresh(struct lent *state);
 /* A payload is reported missing. */
 uint32_t call_missing(struct lent *state);
 /* A stereo payload is read from start to end of the lent buffer. */
-uint32_t call_read_stereo(struct stereo_call *call, uint32_t start, uint32_t end);
+uint32_t call_read_stereo(struct stereo_call *call, uint64_t start, uint64_t end);
 /* Lent contents are written. */
 uint32_t call_write_stereo(struct write_call *call);
 /* A channel stream is read from start to end of the lent buffer. */
-uint32_t call_read_channel(struct channel_call *call, uint32_t start, uint32_t end, uint32_t index);
+uint32_t call_read_channel(struct channel_call *call, uint64_t start, uint64_t end, uint32_t index);
 /* The header of a lent image is read. */
 uint32_t call_read_header(struct image_call *call);
 /* The payload k of a lent image is found. */
@@ -52,6 +55,6 @@ uint32_t call_read_frame(struct frame_call *call, size_t start);
 /* The stream of the frame that starts at a byte of a lent file is cut out. */
 uint32_t call_unwrap_frame(struct unwrap_call *call, size_t start);
 /* The stream from start to end of the lent buffer is wrapped. */
-uint32_t call_wrap_stream(struct wrap_call *call, uint32_t start, uint32_t end, uint32_t index);
+uint32_t call_wrap_stream(struct wrap_call *call, uint64_t start, uint64_t end, uint32_t index);
 
 #endif

@@ -14,6 +14,12 @@ void test_known_channel(void);
 void test_known_image(void);
 void test_known_frame(void);
 
+/* The header's constants. */
+void test_face(void);
+
+/* Null pointers with length 0. */
+void test_nulls(void);
+
 /* An image: its header, its parts, each payload. */
 void test_image(const uint8_t *image, size_t size);
 
@@ -22,6 +28,9 @@ void test_channel_payload(const uint8_t *payload, size_t size, uint32_t index);
 
 /* A channel stream: wrapped as a frame, that frame read and cut again, and refused in every way. */
 void test_wrapped_payload(const uint8_t *payload, size_t size, uint32_t index);
+
+/* An image of some size is begun: what is altered from here on does not hang on what came before. */
+void begin_altering(size_t size);
 
 /* A stereo payload: read, refused in every way, written back; the state moves on. */
 void test_stereo_payload(uint8_t *state, const uint8_t *payload, size_t size);

@@ -8,8 +8,8 @@
 /* What a call of read_channel left. */
 struct reading {
     uint32_t number;
-    int16_t lines[OARCRADLER_LINES];
-    uint8_t factors[OARCRADLER_FACTORS], books[OARCRADLER_BOOKS], answer[OARCRADLER_CHANNEL];
+    int16_t lines[OARCRADLER_SIZE_LINES];
+    uint8_t factors[OARCRADLER_SIZE_FACTORS], books[OARCRADLER_SIZE_BOOKS], answer[OARCRADLER_SIZE_CHANNEL];
 };
 
 static struct channel_call read;
@@ -19,10 +19,10 @@ static void lend_read(const uint8_t *payload, size_t size, size_t around, size_t
 {
     lend(&read.buffer, around + size + around, seed);
     memcpy(bytes_of(&read.buffer) + around, payload, size);
-    lend(&read.lines, (OARCRADLER_LINES + longer) * sizeof(int16_t), seed + 1);
-    lend(&read.factors, OARCRADLER_FACTORS + longer, seed + 2);
-    lend(&read.books, OARCRADLER_BOOKS + longer, seed + 3);
-    lend(&read.answer, OARCRADLER_CHANNEL + longer, seed + 4);
+    lend(&read.lines, (OARCRADLER_SIZE_LINES + longer) * sizeof(int16_t), seed + 1);
+    lend(&read.factors, OARCRADLER_SIZE_FACTORS + longer, seed + 2);
+    lend(&read.books, OARCRADLER_SIZE_BOOKS + longer, seed + 3);
+    lend(&read.answer, OARCRADLER_SIZE_CHANNEL + longer, seed + 4);
 }
 
 /* One reading in such buffers. */
@@ -55,15 +55,15 @@ static struct reading read_twice(const uint8_t *payload, size_t size, uint32_t i
 /* Scale factors and books are 0 past group times max_sfb; the groups' windows are one or eight, and 0 past the last. */
 static void test_unused(const struct reading *r)
 {
-    unsigned groups = r->answer[OARCRADLER_CHANNEL_GROUP_COUNT], windows = 0;
-    size_t used = groups * r->answer[OARCRADLER_CHANNEL_MAX_SFB];
-    for (size_t k = used; k < OARCRADLER_BOOKS; k++)
+    unsigned groups = r->answer[OARCRADLER_AT_CHANNEL_GROUP_COUNT], windows = 0;
+    size_t used = groups * r->answer[OARCRADLER_AT_CHANNEL_MAX_SFB];
+    for (size_t k = used; k < OARCRADLER_SIZE_BOOKS; k++)
         expect(r->factors[k] == 0 && r->books[k] == 0, "read_channel: a scale factor or a book past the last");
     for (unsigned k = 0; k < 8; k++) {
-        windows += r->answer[OARCRADLER_CHANNEL_GROUPS + k];
-        expect((r->answer[OARCRADLER_CHANNEL_GROUPS + k] != 0) == (k < groups), "read_channel: windows of a group that is not there");
+        windows += r->answer[OARCRADLER_AT_CHANNEL_GROUPS + k];
+        expect((r->answer[OARCRADLER_AT_CHANNEL_GROUPS + k] != 0) == (k < groups), "read_channel: windows of a group that is not there");
     }
-    expect_number(windows, r->answer[OARCRADLER_CHANNEL_SEQUENCE] == 2 ? 8 : 1, "read_channel: windows in all");
+    expect_number(windows, r->answer[OARCRADLER_AT_CHANNEL_SEQUENCE] == 2 ? 8 : 1, "read_channel: windows in all");
 }
 
 /* Ranges outside the buffer. */
@@ -77,6 +77,8 @@ static void test_bad_ranges(const uint8_t *payload, size_t size, uint32_t index)
     expect_number(call_read_channel(&read, 0, UINT32_MAX, index), 1, "read_channel: end at 2^32 - 1");
     expect_number(call_read_channel(&read, UINT32_MAX, UINT32_MAX, index), 1, "read_channel: start at 2^32 - 1");
     expect_number(call_read_channel(&read, UINT32_MAX, 0, 259), 1, "read_channel: start at 2^32 - 1, end at 0, and no index");
+    expect_number(call_read_channel(&read, PAST_32_BITS, PAST_32_BITS + last, index), 1, "read_channel: 2^32 further on");
+    expect_number(call_read_channel(&read, 0, PAST_32_BITS + last, index), 1, "read_channel: an end 2^32 further on");
 }
 
 /* Indices that are unknown, one and then with an output that is too short. */
@@ -94,13 +96,13 @@ static void test_short_outputs(const uint8_t *payload, size_t size, uint32_t ind
     for (int which = 0; which < 4; which++) {
         lend_read(payload, size, 0, 0, 5);
         if (which == 0)
-            lend(&read.lines, (OARCRADLER_LINES - 1) * sizeof(int16_t), 6);
+            lend(&read.lines, (OARCRADLER_SIZE_LINES - 1) * sizeof(int16_t), 6);
         else if (which == 1)
-            lend(&read.factors, OARCRADLER_FACTORS - 1, 7);
+            lend(&read.factors, OARCRADLER_SIZE_FACTORS - 1, 7);
         else if (which == 2)
-            lend(&read.books, OARCRADLER_BOOKS - 1, 8);
+            lend(&read.books, OARCRADLER_SIZE_BOOKS - 1, 8);
         else
-            lend(&read.answer, OARCRADLER_CHANNEL - 1, 9);
+            lend(&read.answer, OARCRADLER_SIZE_CHANNEL - 1, 9);
         expect_number(call_read_channel(&read, 0, (uint32_t)size, index), 2, "read_channel: an output one too short");
         expect_number(call_read_channel(&read, 0, (uint32_t)size, 259), 2, "read_channel: an output one too short, and no index");
         expect_number(call_read_channel(&read, 1, 0, index), 1, "read_channel: an output one too short, and start after end");
@@ -138,12 +140,12 @@ static void test_bench(void)
 static void test_silence(void)
 {
     static const uint32_t known[] = { 3, 4, 6, 7 };
-    static const uint8_t payload[] = { 100, 0, 0 }, wanted[OARCRADLER_CHANNEL] = { 0, 0, 0, 22, 100, 0, 0, 0, 1, 1 };
+    static const uint8_t payload[] = { 100, 0, 0 }, wanted[OARCRADLER_SIZE_CHANNEL] = { 0, 0, 0, 22, 100, 0, 0, 0, 1, 1 };
     for (size_t k = 0; k < sizeof known / sizeof *known; k++) {
         struct reading r = read_twice(payload, sizeof payload, known[k]);
         expect_number(r.number, 0, "read_channel of silence");
         expect(memcmp(r.answer, wanted, sizeof wanted) == 0, "read_channel: the answer of silence");
-        for (size_t line = 0; line < OARCRADLER_LINES; line++)
+        for (size_t line = 0; line < OARCRADLER_SIZE_LINES; line++)
             expect(r.lines[line] == 0, "read_channel: a line of silence");
         test_channel_payload(payload, sizeof payload, known[k]);
     }

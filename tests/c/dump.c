@@ -9,30 +9,33 @@ static struct image image;
 /* 34 indices. */
 static void print_indices(const uint8_t *indices)
 {
-    for (int k = 0; k < OARCRADLER_INDICES; k++)
+    for (int k = 0; k < OARCRADLER_SIZE_INDICES; k++)
         printf(" %d", indices[k] < 128 ? indices[k] : indices[k] - 256);
     printf("\n");
 }
 
 /* A channel stream that was read. */
-static void print_channel(uint32_t k, const int16_t *lines, const uint8_t *factors, const uint8_t *books, const uint8_t *answer)
+static void print_channel(uint32_t k, const int16_t *lines, const struct oarcradler_factors *factors, const struct oarcradler_books *books,
+    const uint8_t *answer)
 {
-    printf("%u channel gain %u lines %u bits %u\n", (unsigned)k, (unsigned)answer[OARCRADLER_CHANNEL_GAIN], count_sounding(lines),
-        (unsigned)oarcradler_word(answer + OARCRADLER_CHANNEL_BITS));
+    printf("%u channel gain %u lines %u bits %u\n", (unsigned)k, (unsigned)answer[OARCRADLER_AT_CHANNEL_GAIN], count_sounding(lines),
+        (unsigned)oarcradler_word(answer + OARCRADLER_AT_CHANNEL_BITS));
     print_rows(lines, factors, books, answer);
 }
 
 /* A channel stream, read or refused. */
 static void dump_channel(uint32_t k, uint32_t start, uint32_t end)
 {
-    static int16_t lines[OARCRADLER_LINES];
-    static uint8_t factors[OARCRADLER_FACTORS], books[OARCRADLER_BOOKS], answer[OARCRADLER_CHANNEL];
-    uint32_t number = oarcradler_read_channel(image.bytes, image.size, start, end, image.index, lines, OARCRADLER_LINES, factors, sizeof factors, books,
-        sizeof books, answer, sizeof answer);
+    static int16_t lines[OARCRADLER_SIZE_LINES];
+    static struct oarcradler_factors factors;
+    static struct oarcradler_books books;
+    static uint8_t answer[OARCRADLER_SIZE_CHANNEL];
+    uint32_t number = oarcradler_read_channel(image.bytes, image.size, start, end, image.index, lines, OARCRADLER_SIZE_LINES, &factors,
+        sizeof factors, &books, sizeof books, answer, sizeof answer);
     if (number != 0)
         printf("%u channel refused %u\n", (unsigned)k, (unsigned)number);
     else
-        print_channel(k, lines, factors, books, answer);
+        print_channel(k, lines, &factors, &books, answer);
 }
 
 /* A mode, or a dash where there is none. */
@@ -47,45 +50,45 @@ static void print_mode(const char *word, int there, uint8_t mode)
 /* A stereo payload's header. */
 static void print_header(const uint8_t *answer)
 {
-    if (!answer[OARCRADLER_STEREO_HEADER]) {
+    if (!answer[OARCRADLER_AT_STEREO_HEADER]) {
         printf("  header -\n");
         return;
     }
     printf("  header");
-    print_mode("iid", answer[OARCRADLER_STEREO_IID_ON], answer[OARCRADLER_STEREO_IID_MODE]);
-    print_mode("icc", answer[OARCRADLER_STEREO_ICC_ON], answer[OARCRADLER_STEREO_ICC_MODE]);
-    printf(" ext %u\n", (unsigned)answer[OARCRADLER_STEREO_EXTENSION_ON]);
+    print_mode("iid", answer[OARCRADLER_AT_STEREO_IID_ON], answer[OARCRADLER_AT_STEREO_IID_MODE]);
+    print_mode("icc", answer[OARCRADLER_AT_STEREO_ICC_ON], answer[OARCRADLER_AT_STEREO_ICC_MODE]);
+    printf(" ext %u\n", (unsigned)answer[OARCRADLER_AT_STEREO_EXTENSION_ON]);
 }
 
 /* An envelope: how each kind that was sent is coded, and the indices. */
 static void print_envelope(unsigned e, const uint8_t *state, const uint8_t *answer)
 {
-    const uint8_t *rows = answer + OARCRADLER_STEREO_FIRST + OARCRADLER_ENVELOPE * e;
-    uint8_t phase = answer[OARCRADLER_STEREO_PHASE];
-    const uint8_t sent[4] = { state[OARCRADLER_STATE_IID_ON], state[OARCRADLER_STATE_ICC_ON], phase, phase };
+    const uint8_t *rows = answer + OARCRADLER_AT_STEREO_FIRST + OARCRADLER_SIZE_ENVELOPE * e;
+    uint8_t phase = answer[OARCRADLER_AT_STEREO_PHASE];
+    const uint8_t sent[4] = { state[OARCRADLER_AT_STATE_IID_ON], state[OARCRADLER_AT_STATE_ICC_ON], phase, phase };
     printf("  envelope %u", e);
     for (int kind = 0; kind < 4; kind++)
-        printf(" %s %s", kinds[kind], !sent[kind] ? "-" : rows[OARCRADLER_ROW * kind] ? "t" : "f");
+        printf(" %s %s", kinds[kind], !sent[kind] ? "-" : rows[OARCRADLER_SIZE_ROW * kind] ? "t" : "f");
     printf("\n");
     for (int kind = 0; kind < 4; kind++) {
         printf("  %s", kinds[kind]);
-        print_indices(rows + OARCRADLER_ROW * kind + 1);
+        print_indices(rows + OARCRADLER_SIZE_ROW * kind + 1);
     }
 }
 
 /* A stereo payload's extension. */
 static void print_extension(const uint8_t *answer)
 {
-    unsigned size = answer[OARCRADLER_STEREO_SIZE] + answer[OARCRADLER_STEREO_ESC], count = answer[OARCRADLER_STEREO_FILL_COUNT];
-    if (!answer[OARCRADLER_STEREO_EXTENSION]) {
+    unsigned size = answer[OARCRADLER_AT_STEREO_SIZE] + answer[OARCRADLER_AT_STEREO_ESC], count = answer[OARCRADLER_AT_STEREO_FILL_COUNT];
+    if (!answer[OARCRADLER_AT_STEREO_EXTENSION]) {
         printf("  extension -\n");
         return;
     }
     printf("  extension size %u", size);
     if (size != 0) {
-        printf(" phase %u fill %s", (unsigned)answer[OARCRADLER_STEREO_PHASE], count ? "" : "-");
+        printf(" phase %u fill %s", (unsigned)answer[OARCRADLER_AT_STEREO_PHASE], count ? "" : "-");
         for (unsigned bit = count; bit > 0; bit--)
-            printf("%d", answer[OARCRADLER_STEREO_FILL] >> (bit - 1) & 1);
+            printf("%d", answer[OARCRADLER_AT_STEREO_FILL] >> (bit - 1) & 1);
     }
     printf("\n");
 }
@@ -93,18 +96,18 @@ static void print_extension(const uint8_t *answer)
 /* The stereo state. */
 static void print_state(const uint8_t *state)
 {
-    static const size_t records[4] = { OARCRADLER_STATE_IID, OARCRADLER_STATE_ICC, OARCRADLER_STATE_IPD, OARCRADLER_STATE_OPD };
-    uint8_t iid = state[OARCRADLER_STATE_IID_MODE], icc = state[OARCRADLER_STATE_ICC_MODE];
+    static const size_t records[4] = { OARCRADLER_AT_STATE_IID, OARCRADLER_AT_STATE_ICC, OARCRADLER_AT_STATE_IPD, OARCRADLER_AT_STATE_OPD };
+    uint8_t iid = state[OARCRADLER_AT_STATE_IID_MODE], icc = state[OARCRADLER_AT_STATE_ICC_MODE];
     printf("  state");
-    print_mode("iid", iid != OARCRADLER_NONE, iid);
-    print_mode("icc", icc != OARCRADLER_NONE, icc);
-    printf(" enabled %u %u %u step %u\n", (unsigned)state[OARCRADLER_STATE_IID_ON], (unsigned)state[OARCRADLER_STATE_ICC_ON],
-        (unsigned)state[OARCRADLER_STATE_EXTENSION_ON], (unsigned)state[OARCRADLER_STATE_IN_STEP]);
+    print_mode("iid", iid != OARCRADLER_MODE_NONE, iid);
+    print_mode("icc", icc != OARCRADLER_MODE_NONE, icc);
+    printf(" enabled %u %u %u step %u\n", (unsigned)state[OARCRADLER_AT_STATE_IID_ON], (unsigned)state[OARCRADLER_AT_STATE_ICC_ON],
+        (unsigned)state[OARCRADLER_AT_STATE_EXTENSION_ON], (unsigned)state[OARCRADLER_AT_STATE_IN_STEP]);
     for (int kind = 0; kind < 4; kind++) {
         const uint8_t *held = state + records[kind];
         printf("  record");
-        print_mode(kinds[kind], held[0] != OARCRADLER_NONE, held[0]);
-        if (held[0] != OARCRADLER_NONE)
+        print_mode(kinds[kind], held[0] != OARCRADLER_MODE_NONE, held[0]);
+        if (held[0] != OARCRADLER_MODE_NONE)
             print_indices(held + 1);
         else
             printf("\n");
@@ -114,16 +117,16 @@ static void print_state(const uint8_t *state)
 /* A stereo payload, read or refused, and the state after it. */
 static void dump_stereo(uint32_t k, uint32_t start, uint32_t end, uint8_t *state)
 {
-    static uint8_t answer[OARCRADLER_STEREO];
-    uint32_t number = oarcradler_read_stereo(state, OARCRADLER_STATE, image.bytes, image.size, start, end, answer, sizeof answer);
+    static uint8_t answer[OARCRADLER_SIZE_STEREO];
+    uint32_t number = oarcradler_read_stereo(state, OARCRADLER_SIZE_STATE, image.bytes, image.size, start, end, answer, sizeof answer);
     if (number != 0) {
         printf("%u stereo refused %u\n", (unsigned)k, (unsigned)number);
     } else {
-        unsigned count = answer[OARCRADLER_STEREO_ENVELOPES], class = answer[OARCRADLER_STEREO_CLASS];
+        unsigned count = answer[OARCRADLER_AT_STEREO_ENVELOPES], class = answer[OARCRADLER_AT_STEREO_CLASS];
         printf("%u stereo envelopes %u bits %u\n", (unsigned)k, count, (unsigned)oarcradler_word(answer));
         print_header(answer);
         printf("  class %u", class);
-        print_bytes(" borders", answer + OARCRADLER_STEREO_BORDERS, class ? count : 0);
+        print_bytes(" borders", answer + OARCRADLER_AT_STEREO_BORDERS, class ? count : 0);
         for (unsigned e = 0; e < count; e++)
             print_envelope(e, state, answer);
         print_extension(answer);
@@ -134,7 +137,7 @@ static void dump_stereo(uint32_t k, uint32_t start, uint32_t end, uint8_t *state
 /* An image, payload by payload. */
 int main(void)
 {
-    uint8_t part[OARCRADLER_PART], state[OARCRADLER_STATE];
+    uint8_t part[OARCRADLER_SIZE_PART], state[OARCRADLER_SIZE_STATE];
     if (!read_image(&image))
         return 0;
     printf("payloads %u\n", (unsigned)image.count);
@@ -143,7 +146,7 @@ int main(void)
     for (uint32_t k = 0; k < image.count; k++) {
         if (oarcradler_find_part(image.bytes, image.size, k, part, sizeof part) != 0)
             return 1;
-        uint32_t start = oarcradler_word(part + OARCRADLER_PART_START), end = oarcradler_word(part + OARCRADLER_PART_END);
+        uint32_t start = oarcradler_word(part + OARCRADLER_AT_PART_START), end = oarcradler_word(part + OARCRADLER_AT_PART_END);
         if (k % 2 == 0)
             dump_channel(k, start, end);
         else

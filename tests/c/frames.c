@@ -20,30 +20,30 @@ static void print_hex(const char *word, const uint8_t *bytes, size_t count)
 /* The line of a frame that was read. */
 static void print_line(unsigned k, size_t start, const int16_t *lines, const uint8_t *answer)
 {
-    printf("%u frame at %lu length %u index %u ", k, (unsigned long)start, (unsigned)oarcradler_word(answer + OARCRADLER_FRAME_LENGTH),
-        (unsigned)answer[OARCRADLER_FRAME_INDEX]);
-    printf("channel gain %u lines %u bits %u\n", (unsigned)answer[OARCRADLER_CHANNEL_GAIN], count_sounding(lines),
-        (unsigned)oarcradler_word(answer + OARCRADLER_CHANNEL_BITS));
+    printf("%u frame at %lu length %u index %u ", k, (unsigned long)start, (unsigned)oarcradler_word(answer + OARCRADLER_AT_FRAME_LENGTH),
+        (unsigned)answer[OARCRADLER_AT_FRAME_INDEX]);
+    printf("channel gain %u lines %u bits %u\n", (unsigned)answer[OARCRADLER_AT_CHANNEL_GAIN], count_sounding(lines),
+        (unsigned)oarcradler_word(answer + OARCRADLER_AT_CHANNEL_BITS));
 }
 
 /* The stream of a frame that was read, and the frame that wraps it; the room for either is just what is promised to be enough. */
 static void print_stream(size_t size, size_t start)
 {
-    static uint8_t stream[OARCRADLER_STREAM_MOST], frame[OARCRADLER_FRAME_MOST];
-    uint8_t answer[OARCRADLER_FRAME], wrapped[OARCRADLER_WRAPPED];
+    static uint8_t stream[OARCRADLER_MOST_STREAM], frame[OARCRADLER_MOST_WRAPPED];
+    uint8_t answer[OARCRADLER_SIZE_FRAME], wrapped[OARCRADLER_SIZE_WRAPPED];
     uint32_t number = oarcradler_unwrap_frame(file, size, start, stream, sizeof stream, answer, sizeof answer);
     if (number != 0) {
         printf("  stream refused %u\n", (unsigned)number);
         return;
     }
-    uint32_t bytes = (oarcradler_word(answer + OARCRADLER_CHANNEL_BITS) + 7) / 8;
+    uint32_t bytes = (oarcradler_word(answer + OARCRADLER_AT_CHANNEL_BITS) + 7) / 8;
     print_hex("  stream", stream, bytes);
-    number = oarcradler_wrap_stream(stream, sizeof stream, 0, bytes, answer[OARCRADLER_FRAME_INDEX], frame, sizeof frame, wrapped,
+    number = oarcradler_wrap_stream(stream, sizeof stream, 0, bytes, answer[OARCRADLER_AT_FRAME_INDEX], frame, sizeof frame, wrapped,
         sizeof wrapped);
     if (number != 0)
         printf("  frame refused %u\n", (unsigned)number);
     else
-        print_hex("  frame", frame, oarcradler_word(wrapped + OARCRADLER_WRAPPED_LENGTH));
+        print_hex("  frame", frame, oarcradler_word(wrapped + OARCRADLER_AT_WRAPPED_LENGTH));
 }
 
 /* The length field of a frame whose header was accepted: 13 bits from bit 30. */
@@ -55,22 +55,24 @@ static uint32_t length_field(const uint8_t *frame)
 /* A frame, read or refused. Its length, or 0 where no next frame is known. */
 static uint32_t print_frame(unsigned k, size_t size, size_t start)
 {
-    static int16_t lines[OARCRADLER_LINES];
-    static uint8_t factors[OARCRADLER_FACTORS], books[OARCRADLER_BOOKS], answer[OARCRADLER_FRAME];
-    uint32_t number = oarcradler_read_frame(file, size, start, lines, OARCRADLER_LINES, factors, sizeof factors, books, sizeof books, answer,
-        sizeof answer);
+    static int16_t lines[OARCRADLER_SIZE_LINES];
+    static struct oarcradler_factors factors;
+    static struct oarcradler_books books;
+    static uint8_t answer[OARCRADLER_SIZE_FRAME];
+    uint32_t number = oarcradler_read_frame(file, size, start, lines, OARCRADLER_SIZE_LINES, &factors, sizeof factors, &books, sizeof books,
+        answer, sizeof answer);
     if (number == 0) {
         print_line(k, start, lines, answer);
-        print_rows(lines, factors, books, answer);
+        print_rows(lines, &factors, &books, answer);
         print_stream(size, start);
-        return oarcradler_word(answer + OARCRADLER_FRAME_LENGTH);
+        return oarcradler_word(answer + OARCRADLER_AT_FRAME_LENGTH);
     }
     printf("%u frame at %lu refused %u\n", k, (unsigned long)start, (unsigned)number);
     switch (number) {
-    case OARCRADLER_NO_BITS:
-    case OARCRADLER_NO_SYNC:
-    case OARCRADLER_OTHER_FRAME:
-    case OARCRADLER_FRAME_SIZE: return 0;
+    case OARCRADLER_REFUSED_NO_BITS:
+    case OARCRADLER_REFUSED_NO_SYNC:
+    case OARCRADLER_REFUSED_OTHER_FRAME:
+    case OARCRADLER_REFUSED_FRAME_SIZE: return 0;
     default: return length_field(file + start);
     }
 }

@@ -17,7 +17,7 @@ static void lend_image(const uint8_t *image, size_t size, size_t room)
 /* Answers too short, whatever the image is. */
 static void test_short_answers(const uint8_t *image, size_t size)
 {
-    for (size_t room = 0; room < OARCRADLER_HEADER; room++) {
+    for (size_t room = 0; room < OARCRADLER_SIZE_HEADER; room++) {
         lend_image(image, size, room);
         expect_number(call_read_header(&call), 2, "read_header: an answer too short");
         expect_number(call_find_part(&call, 0), 2, "find_part: an answer too short");
@@ -29,8 +29,8 @@ static void test_short_answers(const uint8_t *image, size_t size)
 static uint32_t test_part(const uint8_t *image, size_t size, uint32_t k, uint32_t start, uint32_t index, uint8_t *state)
 {
     expect_number(call_find_part(&call, k), 0, "find_part of a payload that is there");
-    uint32_t end = oarcradler_word(bytes_of(&call.answer) + OARCRADLER_PART_END);
-    expect_number(oarcradler_word(bytes_of(&call.answer) + OARCRADLER_PART_START), start, "find_part: where a part starts");
+    uint32_t end = oarcradler_word(bytes_of(&call.answer) + OARCRADLER_AT_PART_END);
+    expect_number(oarcradler_word(bytes_of(&call.answer) + OARCRADLER_AT_PART_START), start, "find_part: where a part starts");
     expect(start <= end && end <= size, "find_part: a part outside the image");
     payload_number = k;
     if (k % 2 == 0) {
@@ -52,20 +52,21 @@ static void test_no_parts(uint32_t count)
 
 void test_image(const uint8_t *image, size_t size)
 {
-    uint8_t state[OARCRADLER_STATE];
+    uint8_t state[OARCRADLER_SIZE_STATE];
     test_short_answers(image, size);
-    lend_image(image, size, OARCRADLER_HEADER + 9);
+    lend_image(image, size, OARCRADLER_SIZE_HEADER + 9);
     uint32_t number = call_read_header(&call);
     if (number != 0) {
         expect_number(call_find_part(&call, 0), number, "find_part: not the header's refusal");
         expect_number(call_find_part(&call, UINT32_MAX), number, "find_part: not the header's refusal of no payload");
         return;
     }
-    uint32_t count = oarcradler_word(bytes_of(&call.answer) + OARCRADLER_HEADER_COUNT);
-    uint32_t index = oarcradler_word(bytes_of(&call.answer) + OARCRADLER_HEADER_INDEX), end = 6 + 2 * count;
+    uint32_t count = oarcradler_word(bytes_of(&call.answer) + OARCRADLER_AT_HEADER_COUNT);
+    uint32_t index = oarcradler_word(bytes_of(&call.answer) + OARCRADLER_AT_HEADER_INDEX), end = 6 + 2 * count;
     expect(index == 3 || index == 4 || index == 6 || index == 7, "read_header: an unknown index");
     test_no_parts(count);
-    oarcradler_fresh_state(state, sizeof state);
+    expect_number(oarcradler_fresh_state(state, sizeof state), 0, "fresh_state");
+    begin_altering(size);
     for (uint32_t k = 0; k < count; k++)
         end = test_part(image, size, k, end, index, state);
     expect(end == size, "find_part: the last part does not end the image");
@@ -82,20 +83,20 @@ void test_known_image(void)
     } altered[] = { { 1, 3, 5 }, { 0, 8, 5 }, { 1, 2, 5 }, { 3, 5, 3 }, { 3, 3, 0 }, { 2, 1, 3 }, { 5, 13, 5 }, { 7, 13, 5 }, { 9, 16, 5 },
         { 11, 17, 5 }, { 13, 18, 5 }, { 13, 20, 5 }, { 12, 1, 5 }, { 14, 1, 0 } };
     uint8_t copy[sizeof image];
-    lend_image(image, sizeof image, OARCRADLER_HEADER);
+    lend_image(image, sizeof image, OARCRADLER_SIZE_HEADER);
     expect_number(call_read_header(&call), 0, "read_header of the rules' image");
-    expect_number(oarcradler_word(bytes_of(&call.answer) + OARCRADLER_HEADER_COUNT), 4, "read_header: the payload count");
-    expect_number(oarcradler_word(bytes_of(&call.answer) + OARCRADLER_HEADER_INDEX), 6, "read_header: the sampling index");
+    expect_number(oarcradler_word(bytes_of(&call.answer) + OARCRADLER_AT_HEADER_COUNT), 4, "read_header: the payload count");
+    expect_number(oarcradler_word(bytes_of(&call.answer) + OARCRADLER_AT_HEADER_INDEX), 6, "read_header: the sampling index");
     test_image(image, sizeof image);
     for (size_t k = 0; k < sizeof altered / sizeof *altered; k++) {
         memcpy(copy, image, sizeof copy);
         copy[altered[k].place] = altered[k].value;
-        lend_image(copy, sizeof copy, OARCRADLER_HEADER);
+        lend_image(copy, sizeof copy, OARCRADLER_SIZE_HEADER);
         expect_number(call_read_header(&call), altered[k].number, "read_header of the rules' image with a byte altered");
         test_image(copy, sizeof copy);
     }
     for (size_t size = 0; size < sizeof image; size++) {
-        lend_image(image, size, OARCRADLER_HEADER);
+        lend_image(image, size, OARCRADLER_SIZE_HEADER);
         expect_number(call_read_header(&call), 5, "read_header of the rules' image, cut");
     }
 }

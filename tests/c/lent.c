@@ -5,8 +5,33 @@
 
 enum { MOST_SAID = 20 };
 
+/* The digest is FNV-1a, of 64 bits. */
+#define FIRST_DIGEST 14695981039346656037u
+#define DIGEST_FACTOR 1099511628211u
+
 unsigned long calls, written_back, wrapped, image_number, payload_number;
+static uint64_t digest = FIRST_DIGEST;
 static unsigned long fault_count;
+
+void digest_bytes(const uint8_t *bytes, size_t count)
+{
+    for (size_t k = 0; k < count; k++)
+        digest = (digest ^ bytes[k]) * DIGEST_FACTOR;
+}
+
+uint64_t take_digest(void)
+{
+    uint64_t taken = digest;
+    digest = FIRST_DIGEST;
+    return taken;
+}
+
+void called(uint32_t number)
+{
+    const uint8_t byte = (uint8_t)number;
+    calls++;
+    digest_bytes(&byte, 1);
+}
 
 uint8_t *bytes_of(struct lent *lent)
 {
@@ -41,6 +66,7 @@ int same_but(struct lent *lent, size_t from, size_t to)
 {
     const uint8_t *all = (const uint8_t *)lent->cells;
     size_t after = GUARD + to, whole = GUARD + lent->size + GUARD;
+    digest_bytes(all + GUARD + from, to - from);
     return memcmp(all, lent->was, GUARD + from) == 0 && memcmp(all + after, lent->was + after, whole - after) == 0;
 }
 

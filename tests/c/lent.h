@@ -32,7 +32,16 @@ uint8_t *lend_bytes(struct lent *lent, size_t size, unsigned seed, const uint8_t
 /* What the buffer and its surroundings hold is remembered: done before a call. */
 void remember(struct lent *lent);
 
-/* Whether every byte but those from one place to another (not included) of the buffer is as it was. */
+/* A call was made and gave a number: it is counted. */
+void called(uint32_t number);
+
+/* Some bytes go into the digest: one number for all that the calls gave, the numbers that came back and the bytes that were written. */
+void digest_bytes(const uint8_t *bytes, size_t count);
+
+/* The digest, which begins anew. */
+uint64_t take_digest(void);
+
+/* Whether every byte but those from one place to another (not included) of the buffer is as it was; those go into the digest. */
 int same_but(struct lent *lent, size_t from, size_t to);
 
 /* Whether every byte is as it was. */

@@ -21,6 +21,6 @@ void print_bytes(const char *words, const uint8_t *bytes, size_t count);
 unsigned count_sounding(const int16_t *lines);
 
 /* The rows of a channel stream that was read: its windows, books, scale factors and lines. */
-void print_rows(const int16_t *lines, const uint8_t *factors, const uint8_t *books, const uint8_t *answer);
+void print_rows(const int16_t *lines, const struct oarcradler_factors *factors, const struct oarcradler_books *books, const uint8_t *answer);
 
 #endif

@@ -1,53 +1,57 @@
-/* stack: how deep the stack of each function goes, over the images on standard input (as harness reads them): it runs on a stack of its own, which
- * is painted before each call and looked at after it. Counted from the frame of the calling function, so arguments and return address are in it. */
-#define _XOPEN_SOURCE 700
+/* stack: how deep the stack of each function goes, over the images on standard input (as harness reads them): what is free below the stack is
+ * painted before each call and looked at after it. Counted from the frame of the calling function, so that what it hands over is in it. */
 #include <stdio.h>
 #include <string.h>
-#include <ucontext.h>
 
 #include "oarcradler.h"
 
-enum { STACK = 65536, LIMIT = 16384, MOST_WRITTEN = 1200, ENTRIES = 10, LEAST_CALLS = 100000 };
+enum { STACK = 20480, LIMIT = 16384, ENTRIES = 10, LEAST_CALLS = 40000, OWN = 256 };
 
 static const uint64_t paint = 0xa5a5a5a5a5a5a5a5u;
 
-static const char *const names[ENTRIES]
-    = { "oarcradler_fresh_state", "oarcradler_report_missing", "oarcradler_read_stereo", "oarcradler_write_stereo", "oarcradler_read_channel",
-          "oarcradler_read_header", "oarcradler_find_part", "oarcradler_read_frame", "oarcradler_unwrap_frame", "oarcradler_wrap_stream" };
-static uint64_t stack[STACK / 8];
+static const struct {
+    const char *name;
+    size_t enough;
+} entries[ENTRIES] = { { "oarcradler_fresh_state", OARCRADLER_STACK_FRESH_STATE },
+    { "oarcradler_report_missing", OARCRADLER_STACK_REPORT_MISSING }, { "oarcradler_read_stereo", OARCRADLER_STACK_READ_STEREO },
+    { "oarcradler_write_stereo", OARCRADLER_STACK_WRITE_STEREO }, { "oarcradler_read_channel", OARCRADLER_STACK_READ_CHANNEL },
+    { "oarcradler_read_header", OARCRADLER_STACK_READ_HEADER }, { "oarcradler_find_part", OARCRADLER_STACK_FIND_PART },
+    { "oarcradler_read_frame", OARCRADLER_STACK_READ_FRAME }, { "oarcradler_unwrap_frame", OARCRADLER_STACK_UNWRAP_FRAME },
+    { "oarcradler_wrap_stream", OARCRADLER_STACK_WRAP_STREAM } };
 static uint8_t *frame;
 static size_t deepest[ENTRIES];
-static unsigned long measured;
-static ucontext_t outside, inside;
+static unsigned long called[ENTRIES], measured;
 
 /* The buffers of the call that is measured, and what it gave. */
-static uint8_t image[70000], state[OARCRADLER_STATE], answer[OARCRADLER_STEREO], out[MOST_WRITTEN], words[OARCRADLER_HEADER];
-static uint8_t factors[OARCRADLER_FACTORS], books[OARCRADLER_BOOKS];
-static uint8_t adts_frame[OARCRADLER_FRAME_MOST], stream[OARCRADLER_STREAM_MOST], length[OARCRADLER_WRAPPED];
-static int16_t lines[OARCRADLER_LINES];
+static uint8_t image[70000], state[OARCRADLER_SIZE_STATE], answer[OARCRADLER_SIZE_STEREO], out[OARCRADLER_MOST_WRITTEN], words[OARCRADLER_SIZE_HEADER];
+static struct oarcradler_factors factors;
+static struct oarcradler_books books;
+static uint8_t adts_frame[OARCRADLER_MOST_WRAPPED], stream[OARCRADLER_MOST_STREAM], length[OARCRADLER_SIZE_WRAPPED];
+static int16_t lines[OARCRADLER_SIZE_LINES];
 static const uint8_t *file;
 static size_t size, file_size, first;
-static uint32_t start, end, index, number;
+static uint64_t start, end;
+static uint32_t index, number;
 static int entry;
 
-/* The call, made on the painted stack. */
-static void call_entry(void)
+/* The call, made over the painted stack. */
+static __attribute__((noinline)) void call_entry(void)
 {
     frame = __builtin_frame_address(0);
     switch (entry) {
     case 0: number = oarcradler_fresh_state(state, sizeof state); break;
     case 1: number = oarcradler_report_missing(state, sizeof state); break;
     case 2: number = oarcradler_read_stereo(state, sizeof state, image, size, start, end, answer, sizeof answer); break;
-    case 3: number = oarcradler_write_stereo(state, sizeof state, answer, sizeof answer, out, sizeof out); break;
+    case 3: number = oarcradler_write_stereo(state, sizeof state, answer, sizeof answer, out, sizeof out, words, sizeof words); break;
     case 4:
-        number = oarcradler_read_channel(image, size, start, end, index, lines, OARCRADLER_LINES, factors, sizeof factors, books,
+        number = oarcradler_read_channel(image, size, start, end, index, lines, OARCRADLER_SIZE_LINES, &factors, sizeof factors, &books,
             sizeof books, answer, sizeof answer);
         break;
     case 5: number = oarcradler_read_header(image, size, words, sizeof words); break;
-    case 6: number = oarcradler_find_part(image, size, start, words, sizeof words); break;
+    case 6: number = oarcradler_find_part(image, size, (uint32_t)start, words, sizeof words); break;
     case 7:
-        number = oarcradler_read_frame(file, file_size, first, lines, OARCRADLER_LINES, factors, sizeof factors, books, sizeof books, answer,
-            sizeof answer);
+        number = oarcradler_read_frame(file, file_size, first, lines, OARCRADLER_SIZE_LINES, &factors, sizeof factors, &books, sizeof books,
+            answer, sizeof answer);
         break;
     case 8: number = oarcradler_unwrap_frame(file, file_size, first, stream, sizeof stream, answer, sizeof answer); break;
     default:
@@ -55,30 +59,42 @@ static void call_entry(void)
     }
 }
 
-/* The stack is painted from a word on, so that it is painted throughout where the words before it are. */
-static void paint_from(size_t word)
+/* So much stack is there: it is touched once, so that the system has given it. */
+static __attribute__((noinline)) void reserve(void)
 {
-    while (word < STACK / 8)
-        stack[word++] = paint;
+    volatile uint8_t room[STACK + STACK / 8];
+    for (size_t k = 0; k < sizeof room; k += 64)
+        room[k] = 0;
 }
 
-/* One call of an entry, and how far below the calling frame the paint is gone. */
-static uint32_t measure(int which)
+/* The call, made from below what a measuring function itself uses. */
+static __attribute__((noinline)) void call_lower(void)
 {
-    static size_t touched;
+    volatile uint8_t own[OWN];
+    own[0] = 0;
+    call_entry();
+    own[OWN - 1] = own[0];
+}
+
+/* One call of an entry, and how far below the calling frame the paint is gone. All is painted for an image's first call, then what was
+ * touched. */
+static __attribute__((noinline)) uint32_t measure(int which)
+{
+    static volatile uint64_t *lowest, *touched;
+    uintptr_t here = (uintptr_t)__builtin_frame_address(0) & ~(uintptr_t)7;
+    volatile uint64_t *top = (volatile uint64_t *)(here - OWN);
+    if (lowest == 0)
+        lowest = (volatile uint64_t *)(here - STACK);
+    for (volatile uint64_t *word = which == 0 ? lowest : touched; word < top; word++)
+        *word = paint;
     entry = which;
-    paint_from(touched);
-    getcontext(&inside);
-    inside.uc_stack.ss_sp = stack;
-    inside.uc_stack.ss_size = sizeof stack;
-    inside.uc_link = &outside;
-    makecontext(&inside, call_entry, 0);
-    swapcontext(&outside, &inside);
-    for (touched = 0; touched < STACK / 8 && stack[touched] == paint;)
+    call_lower();
+    for (touched = lowest; touched < top && *touched == paint;)
         touched++;
-    size_t depth = (size_t)(frame - (uint8_t *)(stack + touched));
+    size_t depth = (uintptr_t)touched < (uintptr_t)frame ? (uintptr_t)frame - (uintptr_t)touched : 0;
     if (depth > deepest[which])
         deepest[which] = depth;
+    called[which]++;
     measured++;
     return number;
 }
@@ -86,7 +102,7 @@ static uint32_t measure(int which)
 /* A stereo payload; what was read, and the same altered, written from the state before; the payload read out of step. The state moves on. */
 static void measure_stereo(void)
 {
-    uint8_t before[OARCRADLER_STATE], after[OARCRADLER_STATE];
+    uint8_t before[OARCRADLER_SIZE_STATE], after[OARCRADLER_SIZE_STATE];
     memcpy(before, state, sizeof before);
     uint32_t read = measure(2);
     memcpy(after, state, sizeof after);
@@ -94,7 +110,7 @@ static void measure_stereo(void)
         memcpy(state, before, sizeof state);
         measure(3);
         memcpy(state, before, sizeof state);
-        answer[OARCRADLER_STEREO_FIRST] ^= 3;
+        answer[OARCRADLER_AT_STEREO_FIRST] ^= 3;
         measure(3);
     }
     memcpy(state, before, sizeof state);
@@ -108,7 +124,7 @@ static void measure_channel(void)
 {
     measure(4);
     if (measure(9) == 0) {
-        file = adts_frame, first = 0, file_size = oarcradler_word(length + OARCRADLER_WRAPPED_LENGTH);
+        file = adts_frame, first = 0, file_size = oarcradler_word(length + OARCRADLER_AT_WRAPPED_LENGTH);
         measure(7);
         measure(8);
         file_size--;
@@ -127,13 +143,13 @@ static void measure_image(void)
     if (measure(5) != 0)
         return;
     uint32_t count = oarcradler_word(words);
-    index = oarcradler_word(words + OARCRADLER_HEADER_INDEX);
+    index = oarcradler_word(words + OARCRADLER_AT_HEADER_INDEX);
     for (uint32_t k = 0; k < count; k++) {
         start = k;
         if (measure(6) != 0)
             return;
-        start = oarcradler_word(words + OARCRADLER_PART_START);
-        end = oarcradler_word(words + OARCRADLER_PART_END);
+        start = oarcradler_word(words + OARCRADLER_AT_PART_START);
+        end = oarcradler_word(words + OARCRADLER_AT_PART_END);
         if (k % 2 == 0)
             measure_channel();
         else
@@ -141,21 +157,42 @@ static void measure_image(void)
     }
 }
 
+/* The next word of standard input. Whether there is one. */
+static int next_word(uint32_t *value)
+{
+    uint8_t word[4];
+    if (fread(word, 1, sizeof word, stdin) != sizeof word)
+        return 0;
+    *value = oarcradler_word(word);
+    return 1;
+}
+
+/* Every image of standard input. Whether they were all there. */
+static int measure_images(void)
+{
+    uint32_t images, length_of_one;
+    if (!next_word(&images))
+        return 0;
+    while (images-- > 0) {
+        if (!next_word(&length_of_one) || length_of_one > sizeof image || fread(image, 1, length_of_one, stdin) != length_of_one)
+            return 0;
+        size = length_of_one;
+        measure_image();
+    }
+    return 1;
+}
+
 /* Every image, then what each function took. */
 int main(void)
 {
-    uint8_t word[4];
     int over = 0;
-    while (fread(word, 1, sizeof word, stdin) == sizeof word) {
-        size = oarcradler_word(word);
-        if (size > sizeof image || fread(image, 1, size, stdin) != size)
-            return 2;
-        measure_image();
-    }
+    reserve();
+    if (!measure_images())
+        return 2;
     for (int k = 0; k < ENTRIES; k++) {
-        int deep = deepest[k] > LIMIT;
-        printf("%s: %lu bytes of stack%s\n", names[k], (unsigned long)deepest[k], deep ? ", MORE THAN 16384" : "");
-        over |= deep || deepest[k] == 0;
+        int deep = deepest[k] > entries[k].enough || deepest[k] > LIMIT;
+        printf("%s: %lu bytes of stack%s\n", entries[k].name, (unsigned long)deepest[k], deep ? ", MORE THAN THE HEADER SAYS" : "");
+        over |= deep || called[k] == 0;
     }
     printf("%lu calls measured\n", measured);
     return over || measured < LEAST_CALLS;

@@ -5,24 +5,25 @@
 #include "cases.h"
 #include "oarcradler.h"
 
-enum { ALTERED = 4, MOST_WRITTEN = 1200 };
+enum { ALTERED = 4, MOST_WRITTEN = 1200, FIRST_CHANCE = 20261115 };
 
 /* What a call of read_stereo left. */
 struct reading {
     uint32_t number;
-    uint8_t state[OARCRADLER_STATE], answer[OARCRADLER_STEREO];
+    uint8_t state[OARCRADLER_SIZE_STATE], answer[OARCRADLER_SIZE_STEREO];
 };
 
 static struct stereo_call read;
 static struct write_call write;
+static uint32_t chance = FIRST_CHANCE;
 
 /* Buffers for a payload: so many other bytes on either side of it, the state's and the answer's so much longer than needed. */
 static void lend_read(const uint8_t *state, const uint8_t *payload, size_t size, size_t around, size_t longer, unsigned seed)
 {
-    lend_bytes(&read.state, OARCRADLER_STATE + longer, seed, state, OARCRADLER_STATE);
+    lend_bytes(&read.state, OARCRADLER_SIZE_STATE + longer, seed, state, OARCRADLER_SIZE_STATE);
     lend(&read.buffer, around + size + around, seed + 1);
     memcpy(bytes_of(&read.buffer) + around, payload, size);
-    lend(&read.answer, OARCRADLER_STEREO + longer, seed + 2);
+    lend(&read.answer, OARCRADLER_SIZE_STEREO + longer, seed + 2);
 }
 
 /* One reading in such buffers. */
@@ -57,33 +58,36 @@ static void test_refused_reads(const uint8_t *state, const uint8_t *payload, siz
     expect_number(call_read_stereo(&read, 0, UINT32_MAX), 1, "read_stereo: end at 2^32 - 1");
     expect_number(call_read_stereo(&read, UINT32_MAX, UINT32_MAX), 1, "read_stereo: start at 2^32 - 1");
     expect_number(call_read_stereo(&read, UINT32_MAX, 0), 1, "read_stereo: start at 2^32 - 1, end at 0");
-    lend(&read.answer, OARCRADLER_STEREO - 1, 4);
+    expect_number(call_read_stereo(&read, PAST_32_BITS, PAST_32_BITS + last), 1, "read_stereo: 2^32 further on");
+    expect_number(call_read_stereo(&read, 0, PAST_32_BITS + last), 1, "read_stereo: an end 2^32 further on");
+    lend(&read.answer, OARCRADLER_SIZE_STEREO - 1, 4);
     expect_number(call_read_stereo(&read, 0, last), 2, "read_stereo: an answer of 581 bytes");
     expect_number(call_read_stereo(&read, 1, 0), 1, "read_stereo: start after end, and an answer of 581 bytes");
-    lend_bytes(&read.state, OARCRADLER_STATE - 1, 5, state, OARCRADLER_STATE - 1);
+    lend_bytes(&read.state, OARCRADLER_SIZE_STATE - 1, 5, state, OARCRADLER_SIZE_STATE - 1);
     expect_number(call_read_stereo(&read, 0, last), 2, "read_stereo: an answer of 581 bytes, and a state of 145");
-    lend(&read.answer, OARCRADLER_STEREO, 6);
+    lend(&read.answer, OARCRADLER_SIZE_STEREO, 6);
     expect_number(call_read_stereo(&read, 0, last), 4, "read_stereo: a state of 145 bytes");
 }
 
 /* Buffers for the writer: contents with another number where the bits stand, an output of so many bytes, and so much longer buffers. */
 static void lend_write(const uint8_t *state, const uint8_t *contents, size_t room, size_t longer, unsigned seed)
 {
-    lend_bytes(&write.state, OARCRADLER_STATE + longer, seed, state, OARCRADLER_STATE);
-    lend(&write.contents, OARCRADLER_STEREO + longer, seed + 1);
-    memcpy(bytes_of(&write.contents) + 4, contents + 4, OARCRADLER_STEREO - 4);
+    lend_bytes(&write.state, OARCRADLER_SIZE_STATE + longer, seed, state, OARCRADLER_SIZE_STATE);
+    lend(&write.contents, OARCRADLER_SIZE_STEREO + longer, seed + 1);
+    memcpy(bytes_of(&write.contents) + 4, contents + 4, OARCRADLER_SIZE_STEREO - 4);
     lend(&write.out, room, seed + 2);
+    lend(&write.answer, OARCRADLER_SIZE_WRITTEN + longer, seed + 3);
 }
 
 /* What was read is written to the bits that were used, the last byte filled up with zeros, and leaves the state that reading left. */
 static void test_written_back(const uint8_t *state, const uint8_t *payload, const struct reading *r, size_t longer)
 {
-    uint32_t bits = oarcradler_word(r->answer + OARCRADLER_STEREO_BITS);
+    uint32_t bits = oarcradler_word(r->answer + OARCRADLER_AT_STEREO_BITS);
     size_t size = (bits + 7) / 8;
     uint8_t last = (uint8_t)(payload[size - 1] & 0xff << (size * 8 - bits));
     lend_write(state, r->answer, size + longer, longer, 7);
     expect_number(call_write_stereo(&write), 0, "write_stereo of what was read");
-    expect_number(oarcradler_word(bytes_of(&write.contents)), bits, "write_stereo: the bit count");
+    expect_number(oarcradler_word(bytes_of(&write.answer) + OARCRADLER_AT_WRITTEN_BITS), bits, "write_stereo: the bit count");
     expect(memcmp(bytes_of(&write.out), payload, size - 1) == 0, "write_stereo: not the bytes that were read");
     expect(bytes_of(&write.out)[size - 1] == last, "write_stereo: not the last byte that was read, filled up with zeros");
     expect(memcmp(bytes_of(&write.state), r->state, sizeof r->state) == 0, "write_stereo: not the state that reading left");
@@ -97,18 +101,20 @@ static void test_refused_writes(const uint8_t *state, const struct reading *r)
     expect_number(call_write_stereo(&write), 2, "write_stereo: an output one byte too short");
     lend(&write.out, 0, 9);
     expect_number(call_write_stereo(&write), 2, "write_stereo: an output of no bytes");
-    lend_bytes(&write.contents, OARCRADLER_STEREO - 1, 10, r->answer, OARCRADLER_STEREO - 1);
+    lend_bytes(&write.contents, OARCRADLER_SIZE_STEREO - 1, 10, r->answer, OARCRADLER_SIZE_STEREO - 1);
     expect_number(call_write_stereo(&write), 40, "write_stereo: contents of 581 bytes, and no room");
-    lend_bytes(&write.state, OARCRADLER_STATE - 1, 11, state, OARCRADLER_STATE - 1);
+    lend_bytes(&write.state, OARCRADLER_SIZE_STATE - 1, 11, state, OARCRADLER_SIZE_STATE - 1);
     expect_number(call_write_stereo(&write), 4, "write_stereo: a state of 145 bytes, contents of 581, and no room");
+    lend(&write.answer, OARCRADLER_SIZE_WRITTEN - 1, 12);
+    expect_number(call_write_stereo(&write), 2, "write_stereo: an answer of 3 bytes, a state of 145, contents of 581");
 }
 
 /* From the same state out of step: what is a restart is read and written as before, all else refused. */
 static void test_out_of_step(const uint8_t *state, const uint8_t *payload, size_t size, const struct reading *r)
 {
-    uint8_t lost[OARCRADLER_STATE];
+    uint8_t lost[OARCRADLER_SIZE_STATE];
     memcpy(lost, state, sizeof lost);
-    lost[OARCRADLER_STATE_IN_STEP] = 0;
+    lost[OARCRADLER_AT_STATE_IN_STEP] = 0;
     struct reading again = read_in(lost, payload, size, 0, 0, 12);
     if (again.number == 0) {
         expect(memcmp(again.answer, r->answer, sizeof again.answer) == 0, "read_stereo: a restart is read otherwise out of step");
@@ -121,21 +127,20 @@ static void test_out_of_step(const uint8_t *state, const uint8_t *payload, size_
     expect(number == 35 || number == 40, "write_stereo: out of step, what is no restart was written");
 }
 
-/* Numbers that look random, the same on every run. */
+/* Numbers that look random, the same for an image on every run. */
 static unsigned some(unsigned below)
 {
-    static uint32_t seed = 20261115;
-    seed ^= seed << 13;
-    seed ^= seed >> 17;
-    seed ^= seed << 5;
-    return seed % below;
+    chance ^= chance << 13;
+    chance ^= chance >> 17;
+    chance ^= chance << 5;
+    return chance % below;
 }
 
 /* Contents with a byte altered can't be written, or are written to a payload that is read to them. */
 static void test_altered_contents(const uint8_t *state, const struct reading *r)
 {
-    uint8_t contents[OARCRADLER_STEREO], out[MOST_WRITTEN];
-    size_t place = some(2) ? 4 + some(18) : OARCRADLER_STEREO_FIRST + some(560);
+    uint8_t contents[OARCRADLER_SIZE_STEREO], out[MOST_WRITTEN];
+    size_t place = some(2) ? 4 + some(18) : OARCRADLER_AT_STEREO_FIRST + some(560);
     memcpy(contents, r->answer, sizeof contents);
     contents[place] = (uint8_t)(some(3) ? contents[place] + 1 - 2 * some(2) : some(256));
     lend_write(state, contents, sizeof out, 0, 14);
@@ -144,12 +149,17 @@ static void test_altered_contents(const uint8_t *state, const struct reading *r)
     if (number != 0)
         return;
     memcpy(out, bytes_of(&write.out), sizeof out);
-    uint32_t bits = oarcradler_word(bytes_of(&write.contents));
+    uint32_t bits = oarcradler_word(bytes_of(&write.answer) + OARCRADLER_AT_WRITTEN_BITS);
     struct reading back = read_in(state, out, (bits + 7) / 8, 0, 0, 15);
     expect_number(back.number, 0, "read_stereo of altered contents that were written");
     expect_number(oarcradler_word(back.answer), bits, "read_stereo: the bits of altered contents that were written");
     expect(memcmp(back.answer + 4, contents + 4, sizeof contents - 4) == 0, "altered contents were written to a payload of others");
     expect(memcmp(back.state, bytes_of(&write.state), sizeof back.state) == 0, "write_stereo and read_stereo leave different states");
+}
+
+void begin_altering(size_t size)
+{
+    chance = FIRST_CHANCE + (uint32_t)size;
 }
 
 void test_stereo_payload(uint8_t *state, const uint8_t *payload, size_t size)
@@ -178,9 +188,9 @@ static void test_bench(void)
     } bench[] = { { 1, { 0, 0 }, 1, 0, 4 }, { 1, { 0, 0 }, 2, 12, 0 }, { 0, { 0, 0 }, 1, 35, 0 }, { 1, { 0, 0 }, 0, 10, 0 },
         { 1, { 0xf0, 0 }, 1, 13, 0 }, { 1, { 0x90, 0 }, 2, 0, 11 } };
     for (size_t k = 0; k < sizeof bench / sizeof *bench; k++) {
-        uint8_t state[OARCRADLER_STATE];
-        oarcradler_fresh_state(state, sizeof state);
-        state[OARCRADLER_STATE_IN_STEP] = bench[k].in_step;
+        uint8_t state[OARCRADLER_SIZE_STATE];
+        expect_number(oarcradler_fresh_state(state, sizeof state), 0, "fresh_state");
+        state[OARCRADLER_AT_STATE_IN_STEP] = bench[k].in_step;
         struct reading r = read_twice(state, bench[k].bytes, bench[k].size);
         expect_number(r.number, bench[k].number, "read_stereo of a bench example");
         expect(r.number != 0 || oarcradler_word(r.answer) == bench[k].bits, "read_stereo: the bits of a bench example");
@@ -192,12 +202,12 @@ static void test_bench(void)
 static void test_published(void)
 {
     static const uint8_t payload[] = { 0xa4, 0x5f, 0xe0, 0x03, 0xff, 0x80, 0x00 };
-    uint8_t state[OARCRADLER_STATE], after[OARCRADLER_STATE], wanted[OARCRADLER_STEREO] = { 0, 0, 0, 50, 1, 0, 0, 1, 1, 0, 0, 1 };
-    oarcradler_fresh_state(state, sizeof state);
-    memset(wanted + OARCRADLER_STEREO_FIRST + OARCRADLER_ROW_ICC + 1, 5, 11);
+    uint8_t state[OARCRADLER_SIZE_STATE], after[OARCRADLER_SIZE_STATE], wanted[OARCRADLER_SIZE_STEREO] = { 0, 0, 0, 50, 1, 0, 0, 1, 1, 0, 0, 1 };
+    expect_number(oarcradler_fresh_state(state, sizeof state), 0, "fresh_state");
+    memset(wanted + OARCRADLER_AT_STEREO_FIRST + OARCRADLER_AT_ROW_ICC + 1, 5, 11);
     memcpy(after, state, sizeof after);
-    after[OARCRADLER_STATE_ICC_ON] = after[OARCRADLER_STATE_ICC_MODE] = after[OARCRADLER_STATE_ICC] = 1;
-    memset(after + OARCRADLER_STATE_ICC + 1, 5, 11);
+    after[OARCRADLER_AT_STATE_ICC_ON] = after[OARCRADLER_AT_STATE_ICC_MODE] = after[OARCRADLER_AT_STATE_ICC] = 1;
+    memset(after + OARCRADLER_AT_STATE_ICC + 1, 5, 11);
     struct reading r = read_twice(state, payload, sizeof payload);
     expect_number(r.number, 0, "read_stereo of a published payload");
     expect(memcmp(r.answer, wanted, sizeof wanted) == 0, "read_stereo: the answer of a published payload");
@@ -211,13 +221,13 @@ static void test_unwritable(void)
     static const struct {
         size_t place;
         uint8_t value;
-    } wrong[] = { { OARCRADLER_STEREO_HEADER, 2 }, { OARCRADLER_STEREO_IID_MODE, 1 }, { OARCRADLER_STEREO_ICC_MODE, 6 },
-        { OARCRADLER_STEREO_CLASS, 2 }, { OARCRADLER_STEREO_ENVELOPES, 3 }, { OARCRADLER_STEREO_ENVELOPES, 5 }, { OARCRADLER_STEREO_BORDERS, 1 },
-        { OARCRADLER_STEREO_EXTENSION, 1 }, { OARCRADLER_STEREO_FILL_COUNT, 1 }, { 57, 2 }, { 57 + 1, 8 }, { 57 + 21, 1 }, { 22 + 1, 1 },
+    } wrong[] = { { OARCRADLER_AT_STEREO_HEADER, 2 }, { OARCRADLER_AT_STEREO_IID_MODE, 1 }, { OARCRADLER_AT_STEREO_ICC_MODE, 6 },
+        { OARCRADLER_AT_STEREO_CLASS, 2 }, { OARCRADLER_AT_STEREO_ENVELOPES, 3 }, { OARCRADLER_AT_STEREO_ENVELOPES, 5 }, { OARCRADLER_AT_STEREO_BORDERS, 1 },
+        { OARCRADLER_AT_STEREO_EXTENSION, 1 }, { OARCRADLER_AT_STEREO_FILL_COUNT, 1 }, { 57, 2 }, { 57 + 1, 8 }, { 57 + 21, 1 }, { 22 + 1, 1 },
         { 57 + 140, 1 }, { 57 + 141, 5 } };
     static const uint8_t payload[] = { 0xa4, 0x5f, 0xe0, 0x03, 0xff, 0x80, 0x00 };
-    uint8_t state[OARCRADLER_STATE];
-    oarcradler_fresh_state(state, sizeof state);
+    uint8_t state[OARCRADLER_SIZE_STATE];
+    expect_number(oarcradler_fresh_state(state, sizeof state), 0, "fresh_state");
     struct reading r = read_in(state, payload, sizeof payload, 0, 0, 1);
     for (size_t k = 0; k < sizeof wrong / sizeof *wrong; k++) {
         lend_write(state, r.answer, 0, 0, 2);

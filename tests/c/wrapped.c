@@ -9,8 +9,8 @@ static struct image image;
 /* A channel payload, wrapped or refused; the room is just what is promised to be enough. */
 static void print_wrapped(uint32_t k, uint32_t start, uint32_t end)
 {
-    static uint8_t frame[OARCRADLER_FRAME_MOST];
-    uint8_t answer[OARCRADLER_WRAPPED];
+    static uint8_t frame[OARCRADLER_MOST_WRAPPED];
+    uint8_t answer[OARCRADLER_SIZE_WRAPPED];
     uint32_t number = oarcradler_wrap_stream(image.bytes, image.size, start, end, image.index, frame, sizeof frame, answer,
         sizeof answer);
     if (number != 0) {
@@ -18,7 +18,7 @@ static void print_wrapped(uint32_t k, uint32_t start, uint32_t end)
         return;
     }
     printf("%u ", (unsigned)k);
-    for (uint32_t byte = 0; byte < oarcradler_word(answer + OARCRADLER_WRAPPED_LENGTH); byte++)
+    for (uint32_t byte = 0; byte < oarcradler_word(answer + OARCRADLER_AT_WRAPPED_LENGTH); byte++)
         printf("%02x", (unsigned)frame[byte]);
     printf("\n");
 }
@@ -26,13 +26,13 @@ static void print_wrapped(uint32_t k, uint32_t start, uint32_t end)
 /* An image, channel payload by channel payload. */
 int main(void)
 {
-    uint8_t part[OARCRADLER_PART];
+    uint8_t part[OARCRADLER_SIZE_PART];
     if (!read_image(&image))
         return 0;
     for (uint32_t k = 0; k < image.count; k += 2) {
         if (oarcradler_find_part(image.bytes, image.size, k, part, sizeof part) != 0)
             return 1;
-        print_wrapped(k, oarcradler_word(part + OARCRADLER_PART_START), oarcradler_word(part + OARCRADLER_PART_END));
+        print_wrapped(k, oarcradler_word(part + OARCRADLER_AT_PART_START), oarcradler_word(part + OARCRADLER_AT_PART_END));
     }
     return 0;
 }
