@@ -63,7 +63,7 @@ typedef char oarcradler_no_length_is_cut[sizeof(uint64_t) == 8 && sizeof(size_t)
 #define OARCRADLER_MOST_WRAPPED 4760 /* bytes that are enough for every frame that wraps a stream */
 #define OARCRADLER_MOST_FRAME 8191   /* bytes of a frame of a file */
 
-/* Bytes of stack that are enough for a call, on every processor that there is an archive for. */
+/* Bytes of stack that are enough for a call, on every processor that there is an archive for, whatever the input. */
 #define OARCRADLER_STACK_WRITE_STEREO 16384
 #define OARCRADLER_STACK_READ_STEREO 14848
 #define OARCRADLER_STACK_READ_FRAME 13312
@@ -74,6 +74,7 @@ typedef char oarcradler_no_length_is_cut[sizeof(uint64_t) == 8 && sizeof(size_t)
 #define OARCRADLER_STACK_FRESH_STATE 256
 #define OARCRADLER_STACK_READ_HEADER 256
 #define OARCRADLER_STACK_FIND_PART 256
+#define OARCRADLER_STACK_VERSION 256
 
 /* The numbers that come back: 0, or a refusal. */
 #define OARCRADLER_DONE 0                       /* read, or written */

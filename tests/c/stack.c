@@ -5,7 +5,7 @@
 
 #include "oarcradler.h"
 
-enum { STACK = 20480, LIMIT = 16384, ENTRIES = 10, LEAST_CALLS = 40000, OWN = 256 };
+enum { STACK = 20480, LIMIT = 16384, ENTRIES = 11, LEAST_CALLS = 40000, OWN = 256 };
 
 static const uint64_t paint = 0xa5a5a5a5a5a5a5a5u;
 
@@ -17,7 +17,7 @@ static const struct {
     { "oarcradler_write_stereo", OARCRADLER_STACK_WRITE_STEREO }, { "oarcradler_read_channel", OARCRADLER_STACK_READ_CHANNEL },
     { "oarcradler_read_header", OARCRADLER_STACK_READ_HEADER }, { "oarcradler_find_part", OARCRADLER_STACK_FIND_PART },
     { "oarcradler_read_frame", OARCRADLER_STACK_READ_FRAME }, { "oarcradler_unwrap_frame", OARCRADLER_STACK_UNWRAP_FRAME },
-    { "oarcradler_wrap_stream", OARCRADLER_STACK_WRAP_STREAM } };
+    { "oarcradler_wrap_stream", OARCRADLER_STACK_WRAP_STREAM }, { "oarcradler_version", OARCRADLER_STACK_VERSION } };
 static uint8_t *frame;
 static size_t deepest[ENTRIES];
 static unsigned long called[ENTRIES], measured;
@@ -54,8 +54,10 @@ static __attribute__((noinline)) void call_entry(void)
             answer, sizeof answer);
         break;
     case 8: number = oarcradler_unwrap_frame(file, file_size, first, stream, sizeof stream, answer, sizeof answer); break;
-    default:
+    case 9:
         number = oarcradler_wrap_stream(image, size, start, end, index, adts_frame, sizeof adts_frame, length, sizeof length);
+        break;
+    default: number = oarcradler_version();
     }
 }
 
@@ -140,6 +142,7 @@ static void measure_channel(void)
 static void measure_image(void)
 {
     measure(0);
+    measure(10);
     if (measure(5) != 0)
         return;
     uint32_t count = oarcradler_word(words);

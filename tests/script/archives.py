@@ -38,8 +38,8 @@ all=$*
 while [ "$1" != -o ]; do shift; done
 case $all in
 *-emit-llvm*) cp "$FAKE_TEXT" "$2" ;;
-*x86_64*) echo "${OTHER_OBJECT:-object}" >"$2" ;;
-*) echo "object for another" >"$2" ;;
+*x86_64*) echo "${OTHER_OBJECT:-object}" >"$2" && : >"${2%.o}.su" ;;
+*) echo "object for another" >"$2" && : >"${2%.o}.su" ;;
 esac"""
 ARCHIVER = """#!/bin/sh
 case $1 in
