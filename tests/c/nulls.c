@@ -32,11 +32,14 @@ static void test_stereo_nulls(void)
 static void test_writer_nulls(void)
 {
     static const uint8_t keep[] = { 0 };
+    uint8_t written[OARCRADLER_SIZE_WRITTEN];
     expect_null(oarcradler_fresh_state(state, sizeof state), 0, "fresh_state");
     expect_null(oarcradler_read_stereo(state, sizeof state, keep, sizeof keep, 0, 1, stereo, sizeof stereo), 0, "read_stereo");
-    expect_null(oarcradler_write_stereo(0, 0, stereo, sizeof stereo, out, sizeof out), 4, "write_stereo with no state");
-    expect_null(oarcradler_write_stereo(state, sizeof state, 0, 0, out, sizeof out), 40, "write_stereo of no contents");
-    expect_null(oarcradler_write_stereo(state, sizeof state, stereo, sizeof stereo, 0, 0), 2, "write_stereo to no output");
+    expect_null(oarcradler_write_stereo(0, 0, stereo, sizeof stereo, out, sizeof out, written, sizeof written), 4, "write_stereo with no state");
+    expect_null(oarcradler_write_stereo(state, sizeof state, 0, 0, out, sizeof out, written, sizeof written), 40, "write_stereo of no contents");
+    expect_null(oarcradler_write_stereo(state, sizeof state, stereo, sizeof stereo, 0, 0, written, sizeof written), 2,
+        "write_stereo to no output");
+    expect_null(oarcradler_write_stereo(state, sizeof state, stereo, sizeof stereo, out, sizeof out, 0, 0), 2, "write_stereo with no answer");
 }
 
 /* The reader of channel streams. */
