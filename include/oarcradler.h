@@ -24,11 +24,11 @@ extern "C" {
 
 /* The compiler warns where a number that comes back is dropped. */
 #if defined(__cplusplus) && __cplusplus >= 201703L || defined(__STDC_VERSION__) && __STDC_VERSION__ >= 202311L
-#define OARCRADLER_NUMBER [[nodiscard]] uint32_t
+#define OARCRADLER_NODISCARD [[nodiscard]]
 #elif defined(__GNUC__)
-#define OARCRADLER_NUMBER __attribute__((warn_unused_result)) uint32_t
+#define OARCRADLER_NODISCARD __attribute__((warn_unused_result))
 #else
-#define OARCRADLER_NUMBER uint32_t
+#define OARCRADLER_NODISCARD
 #endif
 
 /* Every length, and every place in a buffer, is a uint64_t, also where size_t has 32 bits: what is proved, and what the archive is compiled
@@ -191,21 +191,21 @@ static inline uint32_t oarcradler_version(void)
 }
 
 /* The state before any payload is written to a lent state. 2, or 0. */
-OARCRADLER_NUMBER oarcradler_fresh_state(uint8_t *state, uint64_t state_size);
+OARCRADLER_NODISCARD uint32_t oarcradler_fresh_state(uint8_t *state, uint64_t state_size);
 
 /* A stereo payload that never came: the state is out of step. 4, or 0. A refused payload has done so itself. */
-OARCRADLER_NUMBER oarcradler_report_missing(uint8_t *state, uint64_t state_size);
+OARCRADLER_NODISCARD uint32_t oarcradler_report_missing(uint8_t *state, uint64_t state_size);
 
 /* The stereo payload in bytes start to end (not included) of a buffer: the state is moved on, the answer written. 1, 2, 4, with nothing
  * touched; 10 to 35, with the state out of step and nothing else touched; or 0. */
-OARCRADLER_NUMBER oarcradler_read_stereo(
+OARCRADLER_NODISCARD uint32_t oarcradler_read_stereo(
     uint8_t *state, uint64_t state_size,
     const uint8_t *buffer, uint64_t buffer_size, uint64_t start, uint64_t end,
     uint8_t *answer, uint64_t answer_size);
 
 /* Contents, laid out as a stereo answer, are written as a payload: the state is moved on, and the answer is the bits written as a word. 2
  * for the answer, 4, 40, 35, last 2 where the payload doesn't fit; each with nothing touched; or 0. */
-OARCRADLER_NUMBER oarcradler_write_stereo(
+OARCRADLER_NODISCARD uint32_t oarcradler_write_stereo(
     uint8_t *state, uint64_t state_size,
     const uint8_t *contents, uint64_t contents_size,
     uint8_t *out, uint64_t out_size,
@@ -213,7 +213,7 @@ OARCRADLER_NUMBER oarcradler_write_stereo(
 
 /* The channel stream in bytes start to end (not included) of a buffer, for a sampling index: lines, scale factors, books and the answer are
  * written. 1, 2, 3 or 10 to 26, with nothing touched; or 0. Lines are counted in elements, all else in bytes. */
-OARCRADLER_NUMBER oarcradler_read_channel(
+OARCRADLER_NODISCARD uint32_t oarcradler_read_channel(
     const uint8_t *buffer, uint64_t buffer_size, uint64_t start, uint64_t end, uint32_t index,
     int16_t *lines, uint64_t line_count,
     struct oarcradler_factors *factors, uint64_t factors_size,
@@ -221,18 +221,18 @@ OARCRADLER_NUMBER oarcradler_read_channel(
     uint8_t *answer, uint64_t answer_size);
 
 /* The header of a tag image: its payload count and sampling index are written as two words. 2, 5, 3, or 0. */
-OARCRADLER_NUMBER oarcradler_read_header(
+OARCRADLER_NODISCARD uint32_t oarcradler_read_header(
     const uint8_t *image, uint64_t image_size,
     uint8_t *answer, uint64_t answer_size);
 
 /* The payload k of a tag image: where it starts and ends is written as two words. 2, 5, 3, 1 where there is no such payload, or 0. */
-OARCRADLER_NUMBER oarcradler_find_part(
+OARCRADLER_NODISCARD uint32_t oarcradler_find_part(
     const uint8_t *image, uint64_t image_size, uint32_t k,
     uint8_t *answer, uint64_t answer_size);
 
 /* The ADTS frame that starts at a byte of a file: lines, scale factors, books and the answer are written. 1 where the start is past the file;
  * 2; 10, 50, 51, 52 of the header; 10 to 26, 53 of the block; 12; each with nothing touched; or 0. Lines are counted in elements. */
-OARCRADLER_NUMBER oarcradler_read_frame(
+OARCRADLER_NODISCARD uint32_t oarcradler_read_frame(
     const uint8_t *file, uint64_t file_size, uint64_t start,
     int16_t *lines, uint64_t line_count,
     struct oarcradler_factors *factors, uint64_t factors_size,
@@ -242,14 +242,14 @@ OARCRADLER_NUMBER oarcradler_read_frame(
 /* The channel stream of the ADTS frame that starts at a byte of a file is written, its last byte filled up with zero bits, and the frame's
  * answer. 1, 2 for the answer, then as oarcradler_read_frame refuses, last 2 where the stream doesn't fit; each with nothing touched; or
  * 0. */
-OARCRADLER_NUMBER oarcradler_unwrap_frame(
+OARCRADLER_NODISCARD uint32_t oarcradler_unwrap_frame(
     const uint8_t *file, uint64_t file_size, uint64_t start,
     uint8_t *out, uint64_t out_size,
     uint8_t *answer, uint64_t answer_size);
 
 /* The channel stream in bytes start to end (not included) of a buffer, for a sampling index, is written as one ADTS frame, and the frame's
  * length as a word. 1, 2 for the answer, 3, 10 to 26, 12, last 2 where the frame doesn't fit; each with nothing touched; or 0. */
-OARCRADLER_NUMBER oarcradler_wrap_stream(
+OARCRADLER_NODISCARD uint32_t oarcradler_wrap_stream(
     const uint8_t *buffer, uint64_t buffer_size, uint64_t start, uint64_t end, uint32_t index,
     uint8_t *out, uint64_t out_size,
     uint8_t *answer, uint64_t answer_size);
