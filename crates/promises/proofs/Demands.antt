@@ -44,6 +44,9 @@ pub use Rattle.promises.proofs.FrameAcceptance.{frame-allowed, frame-ex
 -- a stream that is wrapped is read to its numbers and unwrapped to its bits; what is unwrapped is a payload with the frame's numbers, and
 -- wrapped again it reads the same
 pub use Rattle.promises.proofs.FrameTrips.{wrap-read, wrap-unwrap, unwrap-agrees, unwrap-read, again-wraps, again-reads}
+-- demand 2, for C: what a program takes out of the bytes of a channel answer and of a frame's answer is what the call answers
+pub use Rattle.promises.proofs.AnswersBack.{channel-back}
+pub use Rattle.promises.proofs.FrameBack.{framed-back}
 
 -- demand 1, of a channel stream: no bit outside the range counts, and no cut goes unseen
 pub channel-outside : (buf other : List ℕ) (start end start′ end′ index lines factors books : ℕ)
