@@ -16,7 +16,7 @@ use Rattle.print_lines.specs.InnerText.{ascii, numberText, formText}
 use Rattle.print_rows.specs.InnerSigned.{signedText}
 use Rattle.print_rows.specs.InnerEach.{each, nextNumber, nextIndex, valueText}
 use Rattle.print_rows.specs.InnerFill.{fillText}
-use Rattle.print_rows.specs.InnerChannelRows.{windowRow, booksRow, factorsRow, valuesRow}
+use Rattle.print_rows.specs.InnerChannelRows.{windowRow, bandsRow, booksRow, factorsRow, valuesRow}
 use Rattle.print_rows.specs.InnerStereoRows.{headerRow, frameRow, partRow, extensionRow}
 use Rattle.print_rows.specs.InnerEnvelopeRows.{envelopeRow, iidRow}
 use Rattle.print_rows.specs.InnerStateRows.{stateRow, recordRow, iidRecord}
@@ -29,7 +29,7 @@ channel-rows : (windowRow short ≡ ascii "  window 2 shape 1 max_sfb 2 groups 5
     × (booksRow short (11 ∷ 0 ∷ 1 ∷ 15 ∷ 9 ∷ []) ≡ ascii "  books 11 0 1 15")
     × (factorsRow short (100 ∷ 0 ∷ 101 ∷ 255 ∷ 9 ∷ []) ≡ ascii "  factors 100 0 101 255")
     × (valuesRow (pos 0 ∷ negsuc 32767 ∷ pos 0 ∷ pos 81 ∷ []) ≡ ascii "  values 1:-32768 3:81")
-unfolding numberText formText signedText each nextNumber valueText windowRow booksRow factorsRow valuesRow
+unfolding numberText formText signedText each nextNumber valueText windowRow bandsRow valuesRow
 channel-rows = (refl, refl, refl, refl)
 
 -- a border is printed whole, whatever 32 bits hold

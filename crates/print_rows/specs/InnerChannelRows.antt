@@ -17,11 +17,14 @@ windowRow r =
 abbrev pub bandCount : Reading → ℕ
 bandCount r = r .«group_count» * r .«max_sfb»
 
-unfoldable pub booksRow : Reading → List ℕ → List ℕ
-booksRow r books = ascii "  books" ++ numbersText (take (bandCount r) books)
+unfoldable pub bandsRow : List ℕ → Reading → List ℕ → List ℕ
+bandsRow words r bands = words ++ numbersText (take (bandCount r) bands)
 
-unfoldable pub factorsRow : Reading → List ℕ → List ℕ
-factorsRow r factors = ascii "  factors" ++ numbersText (take (bandCount r) factors)
+abbrev pub booksRow : Reading → List ℕ → List ℕ
+booksRow r books = bandsRow (ascii "  books") r books
+
+abbrev pub factorsRow : Reading → List ℕ → List ℕ
+factorsRow r factors = bandsRow (ascii "  factors") r factors
 
 unfoldable pub valuesRow : List ℤ → List ℕ
 valuesRow lines = ascii "  values" ++ valuesText lines

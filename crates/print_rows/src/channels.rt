@@ -3,7 +3,7 @@ ghost use mathlib.Core.Path.{_≡_};
 ghost use Prim.Native.Nat.{_*_, _≤_};
 ghost use lib.ListN.{length};
 ghost use Rattle.print_lines.specs.InnerText.{HoldsLine};
-ghost use Rattle.print_rows.specs.InnerChannelRows.{bandCount, windowRow, booksRow, factorsRow, valuesRow};
+ghost use Rattle.print_rows.specs.InnerChannelRows.{bandCount, windowRow, bandsRow, booksRow, factorsRow, valuesRow};
 use crate::lists;
 use channel::Reading;
 use print_lines::text;
@@ -30,13 +30,21 @@ fn put_window(line: &mut [u8], r: Reading) -> usize
     lists::put_bytes(line, at, &groups, r.group_count as usize)
 }
 
+// A number for each band, after some words.
+fn put_bands(line: &mut [u8], words: &[u8], r: Reading, bands: &[u8]) -> usize
+    requires { ⌜ (16384 ≤ length (now line)) × (length (now words) ≤ 16) × (length (now bands) ≤ 120) ⌝ }
+    ensures { λ at. ⌜ HoldsLine (now (line .entry)) (bandsRow (now (words .entry)) r (now (bands .entry))) at (now (line .exit)) ⌝ }
+{
+    let at = text::put(line, 0, words);
+    lists::put_bytes(line, at, bands, band_count(r))
+}
+
 // The books.
 fn put_books(line: &mut [u8], r: Reading, books: &[u8]) -> usize
     requires { ⌜ (16384 ≤ length (now line)) × (length (now books) ≤ 120) ⌝ }
     ensures { λ at. ⌜ HoldsLine (now (line .entry)) (booksRow r (now (books .entry))) at (now (line .exit)) ⌝ }
 {
-    let at = text::put(line, 0, b"  books");
-    lists::put_bytes(line, at, books, band_count(r))
+    put_bands(line, b"  books", r, books)
 }
 
 // The scale factors.
@@ -44,8 +52,7 @@ fn put_factors(line: &mut [u8], r: Reading, factors: &[u8]) -> usize
     requires { ⌜ (16384 ≤ length (now line)) × (length (now factors) ≤ 120) ⌝ }
     ensures { λ at. ⌜ HoldsLine (now (line .entry)) (factorsRow r (now (factors .entry))) at (now (line .exit)) ⌝ }
 {
-    let at = text::put(line, 0, b"  factors");
-    lists::put_bytes(line, at, factors, band_count(r))
+    put_bands(line, b"  factors", r, factors)
 }
 
 // The lines.

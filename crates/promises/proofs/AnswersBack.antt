@@ -9,37 +9,31 @@ use native.Mathlib.Omega.{arith}
 use lib.Dec.{eqb}
 use lib.ListN.{length, take, drop, length-append, length-replicate}
 use lib.Seq.{take-append-seam}
-use Rattle.bits.specs.Reader.{Answer, got, refused, pick}
+use Rattle.bits.specs.Reader.{got, refused, pick}
 use Rattle.bits.specs.Bytes.{wordOf}
 use Rattle.bits.specs.Calls.{callRefusal}
 use Rattle.bits.specs.Payload.{range}
 use Rattle.bits.proofs.FourBytes.{word-back}
 use Rattle.bits.proofs.Lawful.{never}
 use Rattle.bits.proofs.OverLaws.{over-front}
-use Rattle.bits.proofs.PayloadLaws.{whole-got}
 use Rattle.channel_lines.specs.Grouping.{inEight}
 use Rattle.channel_lines.proofs.GroupCounts.{groups-few}
 use Rattle.channel_side.specs.Window.{isShort, groups}
 use Rattle.channel.specs.declared.stream.Head.{Head}
-use Rattle.channel.specs.Stream.{Stream, stream}
-use Rattle.channel.specs.Promise.{accepted, channel, channelCallRefusal}
+use Rattle.channel.specs.Stream.{Stream}
+use Rattle.channel.specs.Promise.{accepted, channel}
 use Rattle.channel.proofs.StreamNear.{stream-near}
 use Rattle.c_channel.specs.ReadChannel.{channelBytes, channelCall, channelAnswerAfter}
 use Rattle.promises.specs.AnswerAt.{readingAt}
-
--- an accepted answer of two comes from the first
-pub first-got : {A : Type 0} (b : Bool) (x : Answer A) (n p : ℕ) {next : ℕ} {a : A} → pick b x (refused n p) ≡ got a next → x ≡ got a next
-first-got true x n p e = e
-first-got false x n p e = never e
+use Rattle.promises.proofs.Acceptance.{stream-exactly}
 
 -- a stream that a call accepts takes few bits
 pub channel-few : (buf : List ℕ) (start end index lines factors books bits : ℕ) (x : Stream)
     → channel buf start end index lines factors books ≡ got x bits → bits ≤ 38000
-unfolding channel
 channel-few buf start end index lines factors books bits x e =
-    let read = first-got (eqb (channelCallRefusal (length buf) start end index lines factors books) 0) _ _ 0 e in
     let s = range buf start end in
-    omega (arith, stream-near index .law s 0 (8 * length s) bits x (whole-got (stream index) s bits x read .0))
+    let read = stream-exactly buf start end index lines factors books x bits e .read in
+    omega (arith, stream-near index .law s 0 (8 * length s) bits x read)
 
 eight : (h : Head) → length (inEight (groups (h .window))) ≡ 8
 eight h =
@@ -70,10 +64,19 @@ reading-back h bits rest l =
     }
 
 module _ (buf : List ℕ) (start end index lines factors books : ℕ) (answer : List ℕ) where
+  -- a call that is accepted is the reader's
+  own : (x : Stream) (bits : ℕ) → channelCall buf start end index lines factors books (length answer) ≡ got x bits
+      → channel buf start end index lines factors books ≡ got x bits
+  unfolding channelCall
+  own x bits = go (eqb (callRefusal (length buf) start end 17 (length answer)) 0) (callRefusal (length buf) start end 17 (length answer))
+    where
+      go : (b : Bool) (n : ℕ) → pick b (channel buf start end index lines factors books) (refused n 0) ≡ got x bits
+          → channel buf start end index lines factors books ≡ got x bits
+      go true n e = e
+      go false n e = never e
+
   pub channel-back : (x : Stream) (bits : ℕ) → channelCall buf start end index lines factors books (length answer) ≡ got x bits
       → readingAt (channelAnswerAfter (got x bits) answer) ≡ accepted (x .head) bits
-  unfolding channelCall
   channel-back x bits e =
-      let read = first-got (eqb (callRefusal (length buf) start end 17 (length answer)) 0) _ _ 0 e in
-      let few = channel-few buf start end index lines factors books bits x read in
+      let few = channel-few buf start end index lines factors books bits x (own x bits e) in
       ap readingAt (over-front answer (channelBytes (accepted (x .head) bits)) _ refl) ∙ reading-back (x .head) bits _ (omega arith)

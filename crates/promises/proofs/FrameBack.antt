@@ -1,39 +1,39 @@
 -- What a program in C takes out of the 22 bytes of an accepted frame's answer is what the call answers: a frame has 8,191 bytes at most and
 -- its stream 38,000 bits, so that both words hold their numbers.
 -- Assumes nothing.
-use Prim.Native.Nat.{ℕ, _+_, _*_, _-_, _<_, _≤_}
-use mathlib.Core.Path.{_≡_, refl, sym, ap, subst, _∙_}
+use Prim.Native.Nat.{ℕ, _+_, _*_, _<_, _≤_}
+use mathlib.Core.Path.{_≡_, refl, sym, ap, _∙_}
 use mathlib.Core.List.{List, [], _∷_, _++_, append-assoc}
-use mathlib.Core.Bool.{Bool, _&&_}
+use mathlib.Core.Bool.{Bool}
 use native.Mathlib.Omega.{arith}
-use lib.Dec.{leb}
 use lib.ListN.{length, drop, getD}
 use lib.Seq.{getD-append-add}
 use Rattle.bits.specs.Bits.{bitsFrom}
-use Rattle.bits.specs.Reader.{Answer, got, refused}
+use Rattle.bits.specs.Reader.{got}
 use Rattle.bits.specs.Field.{field}
-use Rattle.bits.specs.Places.{here, oneField}
-use Rattle.bits.specs.Payload.{ended}
+use Rattle.bits.specs.Places.{oneField}
 use Rattle.bits.specs.Bytes.{wordOf}
 use Rattle.bits.proofs.FourBytes.{word-back}
 use Rattle.bits.proofs.Gives.{Gives, give-gives, bind-gives, then-gives, field-gives, inside-gives}
-use Rattle.bits.proofs.Lawful.{never, same-value, split}
 use Rattle.bits.proofs.OverLaws.{over-front}
 use Rattle.bits.proofs.PlacesLaws.{placed-got}
-use Rattle.channel.specs.Stream.{Stream, stream}
+use Rattle.channel.specs.Stream.{Stream}
 use Rattle.channel.specs.Promise.{accepted}
 use Rattle.channel.specs.declared.Reading.{Reading}
 use Rattle.channel.specs.declared.stream.Head.{Head}
 use Rattle.channel.proofs.StreamNear.{stream-near}
 use Rattle.adts.specs.Header.{Header, only, fixedHalf, variableHalf, header}
-use Rattle.adts.specs.Block.{Block, element, singleChannel, rawBlock}
-use Rattle.adts.specs.Frame.{wholeHeader, fitting, lengthJudged, frameHeader, streamIn}
+use Rattle.adts.specs.Block.{rawBlock}
+use Rattle.adts.specs.Frame.{wholeHeader, frameHeader}
 use Rattle.adts.specs.Promise.{headerAt, streamAt, framed}
 use Rattle.adts.specs.declared.Framed.{Framed}
+use Rattle.adts.proofs.BlockLaws.{stream-held}
+use Rattle.adts_laws.proofs.FrameCalls.{header-there}
+use Rattle.adts_laws.proofs.Outside.{accepted as judged}
 use Rattle.c_channel.specs.ReadChannel.{channelBytes}
 use Rattle.c_adts.specs.FrameBytes.{frameBytes, frameAnswerAfter}
 use Rattle.promises.specs.AnswerAt.{framedAt}
-use Rattle.promises.proofs.AnswersBack.{first-got, reading-back, reading-long}
+use Rattle.promises.proofs.AnswersBack.{reading-back, reading-long}
 
 size-short : Gives (λ n. n < 8192) variableHalf
 unfolding variableHalf
@@ -48,57 +48,21 @@ header-short : Gives (λ h. h .length < 8192) header
 unfolding header
 header-short = then-gives fixedHalf λ index. bind-gives size-short λ size h. give-gives h
 
-whole-short : (s : List ℕ) (at end next : ℕ) (h : Header) → wholeHeader s at end ≡ got h next → h .length < 8192
-unfolding wholeHeader oneField
-whole-short s at end next h e = inside-gives 56 10 header header-short .law s at end next h (placed-got _ at next h e)
-
--- a header whose length was judged
-judged-short : (there : ℕ) (x : Answer Header) → ((h : Header) (next : ℕ) → x ≡ got h next → h .length < 8192) → (h : Header) (next : ℕ)
-    → lengthJudged there x ≡ got h next → h .length < 8192
-unfolding fitting
-judged-short there (got k m) f h next e =
-    let w = first-got (leb 7 (k .length) && leb (k .length) there) (got k 56) 52 0 e in
-    subst (λ (y : Header). y .length < 8192) (same-value w) (f k m refl)
-judged-short there (refused n p) f h next e = never e
-
+-- a frame's header, and the stream after it
 frame-short : (file : List ℕ) (start : ℕ) (room : Bool) (h : Header) (next : ℕ) → headerAt file start room ≡ got h next → h .length < 8192
-unfolding headerAt frameHeader
+unfolding frameHeader wholeHeader oneField
 frame-short file start room h next e =
-    let there = first-got (leb start (length file)) _ 1 0 e in
     let s = drop start file in
-    judged-short (length s) (wholeHeader s 0 (8 * length s)) (λ h next. whole-short s 0 (8 * length s) next h) h next
-    (first-got room _ 2 0 there)
+    let there = header-there file start room h next e .2 in
+    let held = judged (length s) (wholeHeader s 0 (8 * length s)) h next there in
+    inside-gives 56 10 header header-short .law s 0 (8 * length s) (held .0) h (placed-got _ 0 (held .0) h (held .1))
 
--- the element and its tag, then the stream
-single-few : (index : ℕ) → Gives (λ x. x .bits ≤ 38000) (singleChannel index)
-unfolding singleChannel here
-single-few index =
-    then-gives (element 0) λ id.
-    then-gives (field 4) λ tag. record {
-      law = λ s at end next x e.
-          let w = split (stream index s at end) _ s end next x e in
-          let q : w .1 - at ≡ x .bits = ap (λ (b : Block). b .bits) (same-value (w .3)) in
-          omega (arith, stream-near index .law s at end (w .1) (w .0) (w .2));
-    }
-
-block-few : (index : ℕ) → Gives (λ x. x .bits ≤ 38000) (rawBlock index)
-unfolding rawBlock ended
-block-few index =
-    bind-gives (single-few index) λ x few.
-    then-gives (element 7) λ id. record {
-      law = λ s at end next y e.
-          subst (λ (b : Block). b .bits ≤ 38000) (same-value (first-got (leb (end - at) 7) (got x at) 12 at e)) few;
-    }
-
-in-few : (y : Answer Block) → ((b : Block) (next : ℕ) → y ≡ got b next → b .bits ≤ 38000) → (x : Stream) (bits : ℕ)
-    → streamIn y ≡ got x bits → bits ≤ 38000
-in-few (got b next) f x bits e = let q : b .bits ≡ bits = cc in rw (← q) (f b next refl)
-in-few (refused n p) f x bits e = never e
-
-frame-few : (file : List ℕ) (start : ℕ) (h : Answer Header) (x : Stream) (bits : ℕ) → streamAt file start h ≡ got x bits → bits ≤ 38000
-frame-few file start (got h next) x bits e =
-    in-few _ (λ b m. block-few (h .index) .law (drop start file) 56 (8 * h .length) m b) x bits e
-frame-few file start (refused n p) x bits e = never e
+frame-few : (file : List ℕ) (start : ℕ) (h : Header) (next bits : ℕ) (x : Stream) → streamAt file start (got h next) ≡ got x bits
+    → bits ≤ 38000
+frame-few file start h next bits x e =
+    let s = drop start file in
+    let held = stream-held (h .index) s (8 * h .length) (rawBlock (h .index) s 56 (8 * h .length)) refl x bits e .1 in
+    omega (arith, stream-near (h .index) .law s 63 (8 * h .length) (63 + bits) x held)
 
 module _ (h : Header) (bits : ℕ) (head : Head) (long : h .length < 4294967296) (few : bits < 4294967296) (answer : List ℕ) where
   abbrev reading : Reading
@@ -138,4 +102,4 @@ pub framed-back : (file : List ℕ) (start : ℕ) (room : Bool) (answer : List �
     → framedAt (frameAnswerAfter (framed (got h next) (accepted (x .head) bits)) answer) ≡ framed (got h next) (accepted (x .head) bits)
 framed-back file start room answer h next bits x e f =
     frame-back h bits (x .head) (omega (arith, frame-short file start room h next e))
-    (omega (arith, frame-few file start (got h next) x bits f)) answer
+    (omega (arith, frame-few file start h next bits x f)) answer

@@ -9,7 +9,8 @@ use Rattle.stereo.specs.declared.State.{State}
 use Rattle.stereo.specs.declared.Contents.{Contents}
 use Rattle.stereo_writer.specs.Writing.{writing, writtenOver}
 use Rattle.stereo_writer.specs.declared.Written.{Written}
-use Rattle.c_layout.specs.StateBytes.{soundBytes, stateAt}
+use Rattle.bits.specs.Bytes.{over}
+use Rattle.c_layout.specs.StateBytes.{stateBytes, soundBytes, stateAt}
 use Rattle.c_layout.specs.ContentsBytes.{contentsAt}
 use Rattle.c_writer.specs.WriteStereo.{writeCallRefusal, stereoWriting}
 use Rattle.c_layout.proofs.StateLaws.{sound-long}
@@ -98,7 +99,7 @@ returns-3 c =
     (rw r at (put .before .before .if2 .left)) in (
       ends .0,
       (
-        put .put-state .ensures ∙ rw r (ends .1 .0),
+        put .put-state .ensures ∙ ap (λ (z : Written). over (a .state .now) 0 (stateBytes (z .state))) r ∙ ends .1 .0,
         (
           wrote w .1 ∙ ends .1 .1 .0,
           bits .put .ensures ∙ rw (bits .before .before .before .word-of .ensures, r) (ends .1 .1 .1),

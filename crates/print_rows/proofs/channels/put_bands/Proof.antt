@@ -2,29 +2,27 @@
 -- Assumes nothing.
 use native.Mathlib.Omega.{arith}
 use lib.ListN.{take}
-use Rattle.print_lines.specs.InnerText.{ascii}
 use Rattle.print_rows.specs.InnerEach.{numbersText}
-use Rattle.print_rows.specs.InnerChannelRows.{bandCount, booksRow}
+use Rattle.print_rows.specs.InnerChannelRows.{bandCount, bandsRow}
 use Rattle.print_rows.proofs.EachLaws.{numbers-short}
 use Rattle.print_rows.proofs.RowLaws.{two-held}
 use borrow.Author.Needs.{needs}
-use Rattle.print_rows.proofs.channels.put_books.Statement.{statement}
-use Rattle.print_rows.proofs.channels.put_books.Tie as tie
+use Rattle.print_rows.proofs.channels.put_bands.Statement.{statement}
+use Rattle.print_rows.proofs.channels.put_bands.Tie as tie
 
 returns : tie.Need-returns
-unfolding booksRow
+unfolding bandsRow
 returns c =
     let list = c .before .before in
     let words = list .before .before .before .before .before in
     let entry = words .before .before .before .before .before in
     let a = entry .args in
     let n = bandCount (a .r) in
-    two-held (a .line .now) (ascii "  books") (numbersText (take n (a .books .now))) (words .put .ensures)
+    two-held (a .line .now) (a .words .now) (numbersText (take n (a .bands .now))) (words .put .ensures)
     (rw (list .before .band-count .ensures) at (list .put-bytes .ensures))
-    (omega (arith, numbers-short n (a .books .now), entry .pre))
+    (omega (arith, numbers-short n (a .bands .now), entry .pre))
 
-pub put-books-spec : {M : Type 1} → statement M
-put-books-spec =
+pub put-bands-spec : {M : Type 1} → statement M
+put-bands-spec =
     tie.close
-    (tie.spec (λ c. search needs) (λ c κs. search needs) (λ c κs. search needs) (λ c κs. search needs) (λ c. search needs)
-    returns)
+    (tie.spec (λ c κs. search needs) (λ c κs. search needs) (λ c κs. search needs) (λ c. search needs) returns)
