@@ -36,9 +36,10 @@ static int cut_file(void)
     uint8_t answer[OARCRADLER_SIZE_FRAME];
     unsigned long at = 0;
     for (size_t size = move_on(0, 0); size > 0 && !ferror(stdin);) {
-        uint32_t number = oarcradler_unwrap_frame(window, size, 0, stream, sizeof stream, answer, sizeof answer);
-        if (number != OARCRADLER_DONE) {
-            fprintf(stderr, "cut: frame at %lu refused %u\n", at, (unsigned)number);
+        uint32_t returned = oarcradler_unwrap_frame(window, size, 0, stream, sizeof stream, answer, sizeof answer);
+        if (returned != OARCRADLER_DONE) {
+            fprintf(stderr, "cut: frame at %lu refused %u at bit %u\n", at, (unsigned)oarcradler_number(returned),
+                (unsigned)oarcradler_place(returned));
             return 0;
         }
         uint32_t length = oarcradler_word(answer + OARCRADLER_AT_FRAME_LENGTH);

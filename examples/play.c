@@ -22,8 +22,8 @@ static int play_channel(uint32_t k, size_t size, uint32_t start, uint32_t end, u
     static struct oarcradler_factors factors;
     static struct oarcradler_books books;
     uint8_t answer[OARCRADLER_SIZE_CHANNEL];
-    uint32_t number = oarcradler_read_channel(image, size, start, end, index, lines, OARCRADLER_SIZE_LINES, &factors, sizeof factors,
-        &books, sizeof books, answer, sizeof answer);
+    uint32_t number = oarcradler_number(oarcradler_read_channel(image, size, start, end, index, lines, OARCRADLER_SIZE_LINES, &factors,
+        sizeof factors, &books, sizeof books, answer, sizeof answer));
     if (number != OARCRADLER_DONE)
         return printf("%u channel refused %u\n", (unsigned)k, (unsigned)number) >= 0;
     return printf("%u channel gain %u lines %u bits %u\n", (unsigned)k, (unsigned)answer[OARCRADLER_AT_CHANNEL_GAIN], count_set(lines),
@@ -34,7 +34,8 @@ static int play_channel(uint32_t k, size_t size, uint32_t start, uint32_t end, u
 static int play_stereo(uint32_t k, size_t size, uint32_t start, uint32_t end, uint8_t *state)
 {
     uint8_t answer[OARCRADLER_SIZE_STEREO];
-    uint32_t number = oarcradler_read_stereo(state, OARCRADLER_SIZE_STATE, image, size, start, end, answer, sizeof answer);
+    uint32_t number = oarcradler_number(
+        oarcradler_read_stereo(state, OARCRADLER_SIZE_STATE, image, size, start, end, answer, sizeof answer));
     if (number != OARCRADLER_DONE)
         return printf("%u stereo refused %u\n", (unsigned)k, (unsigned)number) >= 0;
     return printf("%u stereo envelopes %u bits %u\n", (unsigned)k, (unsigned)answer[OARCRADLER_AT_STEREO_ENVELOPES],
@@ -61,7 +62,7 @@ static int play_payloads(size_t size, uint32_t count, uint32_t index)
 static int play_image(size_t size)
 {
     uint8_t header[OARCRADLER_SIZE_HEADER];
-    uint32_t number = oarcradler_read_header(image, size, header, sizeof header);
+    uint32_t number = oarcradler_number(oarcradler_read_header(image, size, header, sizeof header));
     if (number != OARCRADLER_DONE)
         return printf("image refused %u\n", (unsigned)number) >= 0;
     uint32_t count = oarcradler_word(header + OARCRADLER_AT_HEADER_COUNT);

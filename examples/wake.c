@@ -11,29 +11,30 @@ static uint8_t image[OARCRADLER_MOST_IMAGE + 1];
  * because the memory lost them, are refused with 4, and the fresh state takes their place. */
 static uint32_t begin_post(uint8_t *state)
 {
-    uint32_t number = oarcradler_report_missing(state, OARCRADLER_SIZE_STATE);
+    uint32_t number = oarcradler_number(oarcradler_report_missing(state, OARCRADLER_SIZE_STATE));
     if (number != OARCRADLER_REFUSED_UNSOUND_STATE)
         return number;
     return oarcradler_fresh_state(state, OARCRADLER_SIZE_STATE);
 }
 
-/* A stereo payload: a handset hands its numbers to the sound chip here, or mutes. */
+/* A stereo payload: a handset hands its numbers to the sound chip here, or mutes and logs why, and at which bit. */
 static void play_stereo(uint32_t k, size_t size, const uint8_t *part, uint8_t *state)
 {
     static uint8_t answer[OARCRADLER_SIZE_STEREO];
-    uint32_t number = oarcradler_read_stereo(state, OARCRADLER_SIZE_STATE, image, size, oarcradler_word(part + OARCRADLER_AT_PART_START),
-        oarcradler_word(part + OARCRADLER_AT_PART_END), answer, sizeof answer);
-    if (number == OARCRADLER_DONE)
+    uint32_t returned = oarcradler_read_stereo(state, OARCRADLER_SIZE_STATE, image, size,
+        oarcradler_word(part + OARCRADLER_AT_PART_START), oarcradler_word(part + OARCRADLER_AT_PART_END), answer, sizeof answer);
+    if (returned == OARCRADLER_DONE)
         printf("%u stereo envelopes %u\n", (unsigned)k, (unsigned)answer[OARCRADLER_AT_STEREO_ENVELOPES]);
     else
-        printf("%u stereo refused %u, %s: %s\n", (unsigned)k, (unsigned)number, oarcradler_name(number), oarcradler_sentence(number));
+        printf("%u stereo refused %u at bit %u, %s: %s\n", (unsigned)k, (unsigned)oarcradler_number(returned),
+            (unsigned)oarcradler_place(returned), oarcradler_name(returned), oarcradler_sentence(returned));
 }
 
 /* Every stereo payload of an image, or why there is none. */
 static void play_post(size_t size, uint8_t *state)
 {
     uint8_t answer[OARCRADLER_SIZE_HEADER];
-    uint32_t number = oarcradler_read_header(image, size, answer, sizeof answer);
+    uint32_t number = oarcradler_number(oarcradler_read_header(image, size, answer, sizeof answer));
     uint32_t count = number == OARCRADLER_DONE ? oarcradler_word(answer + OARCRADLER_AT_HEADER_COUNT) : 0;
     if (number != OARCRADLER_DONE)
         printf("image refused %u, %s: %s\n", (unsigned)number, oarcradler_name(number), oarcradler_sentence(number));

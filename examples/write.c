@@ -31,11 +31,12 @@ int main(void)
         return 1;
     }
     fill_contents(contents, level);
-    uint32_t number = oarcradler_fresh_state(state, sizeof state);
-    if (number == OARCRADLER_DONE)
-        number = oarcradler_write_stereo(state, sizeof state, contents, sizeof contents, out, sizeof out, answer, sizeof answer);
-    if (number != OARCRADLER_DONE) {
-        fprintf(stderr, "write: refused %u, %s: %s\n", (unsigned)number, oarcradler_name(number), oarcradler_sentence(number));
+    uint32_t returned = oarcradler_fresh_state(state, sizeof state);
+    if (returned == OARCRADLER_DONE)
+        returned = oarcradler_write_stereo(state, sizeof state, contents, sizeof contents, out, sizeof out, answer, sizeof answer);
+    if (returned != OARCRADLER_DONE) {
+        fprintf(stderr, "write: refused %u, %s: %s\n", (unsigned)oarcradler_number(returned), oarcradler_name(returned),
+            oarcradler_sentence(returned));
         return 1;
     }
     for (uint32_t k = 0; k < (oarcradler_word(answer + OARCRADLER_AT_WRITTEN_BITS) + 7) / 8; k++)

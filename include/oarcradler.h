@@ -2,8 +2,14 @@
  * cut and made.
  *
  * Every function takes byte buffers that the caller owns, each as a pointer and a length, and keeps nothing after the call. Buffers of one
- * call must not overlap; a buffer of length 0 may be a null pointer. It answers 0, or the number of a refusal, which is never to be dropped:
- * after a refusal the lent outputs hold what they held before, the last post's numbers. docs/C.md describes every byte.
+ * call must not overlap; a buffer of length 0 may be a null pointer. It returns 0, or a refusal, which is never to be dropped: after a
+ * refusal the lent outputs hold what they held before, the last post's numbers. docs/C.md describes every byte.
+ *
+ * A refusal has a number, which says why, and a place, which says where: the bit at which the payload, or the frame, went bad. What is
+ * returned holds both; a function whose comment names no place returns the number alone.
+ *
+ *     Take the number out first: oarcradler_number(returned) == OARCRADLER_REFUSED_..
+ *     What is returned, compared as it is, is a refusal's number only where the place is 0. A success is 0, the whole of it.
  *
  * Names: OARCRADLER_REFUSED_.. is a number that comes back, OARCRADLER_SIZE_.. how much a buffer holds at least, OARCRADLER_AT_.. the place
  * of a byte in a buffer, OARCRADLER_MOST_.. a limit, OARCRADLER_STACK_.. the stack of a call. */
@@ -17,12 +23,12 @@
 extern "C" {
 #endif
 
-#define OARCRADLER_VERSION "2.0.0"
-#define OARCRADLER_VERSION_MAJOR 2
+#define OARCRADLER_VERSION "3.0.0"
+#define OARCRADLER_VERSION_MAJOR 3
 #define OARCRADLER_VERSION_MINOR 0
 #define OARCRADLER_VERSION_PATCH 0
 
-/* The compiler warns where a number that comes back is dropped. */
+/* The compiler warns where what comes back is dropped. */
 #if defined(__cplusplus) && __cplusplus >= 201703L || defined(__STDC_VERSION__) && __STDC_VERSION__ >= 202311L
 #define OARCRADLER_NODISCARD [[nodiscard]]
 #elif defined(__GNUC__)
@@ -62,6 +68,7 @@ typedef char oarcradler_no_length_is_cut[sizeof(uint64_t) == 8 && sizeof(size_t)
 #define OARCRADLER_MOST_STREAM 4750  /* bytes that are enough for every stream that is cut out of a frame */
 #define OARCRADLER_MOST_WRAPPED 4760 /* bytes that are enough for every frame that wraps a stream */
 #define OARCRADLER_MOST_FRAME 8191   /* bytes of a frame of a file */
+#define OARCRADLER_MOST_PLACE 65528  /* the last bit at which anything is refused, from the payload's or frame's first */
 
 /* Bytes of stack that are enough for a call, on every processor that there is an archive for, whatever the input. */
 #define OARCRADLER_STACK_WRITE_STEREO 16384
@@ -76,7 +83,7 @@ typedef char oarcradler_no_length_is_cut[sizeof(uint64_t) == 8 && sizeof(size_t)
 #define OARCRADLER_STACK_FIND_PART 256
 #define OARCRADLER_STACK_VERSION 256
 
-/* The numbers that come back: 0, or a refusal. */
+/* The numbers that come back: 0, or a refusal's. They are compared with oarcradler_number(returned), never with what was returned. */
 #define OARCRADLER_DONE 0                       /* read, or written */
 #define OARCRADLER_REFUSED_BAD_RANGE 1          /* range outside the buffer, or its start after its end; no such payload */
 #define OARCRADLER_REFUSED_TOO_SHORT 2          /* a lent output is too short */
@@ -177,17 +184,32 @@ static inline uint32_t oarcradler_word(const uint8_t *at)
     return (uint32_t)at[0] << 24 | (uint32_t)at[1] << 16 | (uint32_t)at[2] << 8 | (uint32_t)at[3];
 }
 
-/* A number's name, which is that of its constant after OARCRADLER_REFUSED_, and what it means in a sentence, for a log. They are not in the
- * archive, and not proved: a program that wants them is compiled with oarcradler_names.c, which stands beside this header. */
-const char *oarcradler_name(uint32_t number);
-const char *oarcradler_sentence(uint32_t number);
+/* The number and the place of what a function returned, which is number + 256 * place. The place is counted in bits from the payload's
+ * first, or from the frame's. It is the first bit of the field that was judged, or that is not whole (10), which may be the end; of what
+ * is unused (12, 35); of the pulse (26 of a pulse); of the element (53). It is 0 for 1 to 5, 40 and 50 to 52: a frame's header counts as
+ * one field, so that its 10 stands at 0 too. No place is above OARCRADLER_MOST_PLACE, so none is cut. */
+static inline uint32_t oarcradler_number(uint32_t returned)
+{
+    return returned % 256;
+}
+
+static inline uint32_t oarcradler_place(uint32_t returned)
+{
+    return returned / 256;
+}
+
+/* A number's name, which is that of its constant after OARCRADLER_REFUSED_, and what it means in a sentence, for a log. They take a number,
+ * or what a function returned, and pass over the place. They are not in the archive, and not proved: a program that wants them is compiled
+ * with oarcradler_names.c, which stands beside this header. */
+const char *oarcradler_name(uint32_t returned);
+const char *oarcradler_sentence(uint32_t returned);
 
 /* The archive's version: 10,000 times the first number, 100 times the second, and the third. The first two stand in its name, so that a
  * program which calls oarcradler_version links with no archive of another version than this header's. */
-uint32_t oarcradler_version_2_0(void);
+uint32_t oarcradler_version_3_0(void);
 static inline uint32_t oarcradler_version(void)
 {
-    return oarcradler_version_2_0();
+    return oarcradler_version_3_0();
 }
 
 /* The state before any payload is written to a lent state. 2, or 0. */
@@ -197,14 +219,14 @@ OARCRADLER_NODISCARD uint32_t oarcradler_fresh_state(uint8_t *state, uint64_t st
 OARCRADLER_NODISCARD uint32_t oarcradler_report_missing(uint8_t *state, uint64_t state_size);
 
 /* The stereo payload in bytes start to end (not included) of a buffer: the state is moved on, the answer written. 1, 2, 4, with nothing
- * touched; 10 to 35, with the state out of step and nothing else touched; or 0. */
+ * touched; 10 to 35 and their place, with the state out of step and nothing else touched; or 0. */
 OARCRADLER_NODISCARD uint32_t oarcradler_read_stereo(
     uint8_t *state, uint64_t state_size,
     const uint8_t *buffer, uint64_t buffer_size, uint64_t start, uint64_t end,
     uint8_t *answer, uint64_t answer_size);
 
 /* Contents, laid out as a stereo answer, are written as a payload: the state is moved on, and the answer is the bits written as a word. 2
- * for the answer, 4, 40, 35, last 2 where the payload doesn't fit; each with nothing touched; or 0. */
+ * for the answer, 4, 40, 35, last 2 where the payload doesn't fit; each with no place and nothing touched; or 0. */
 OARCRADLER_NODISCARD uint32_t oarcradler_write_stereo(
     uint8_t *state, uint64_t state_size,
     const uint8_t *contents, uint64_t contents_size,
@@ -212,7 +234,7 @@ OARCRADLER_NODISCARD uint32_t oarcradler_write_stereo(
     uint8_t *answer, uint64_t answer_size);
 
 /* The channel stream in bytes start to end (not included) of a buffer, for a sampling index: lines, scale factors, books and the answer are
- * written. 1, 2, 3 or 10 to 26, with nothing touched; or 0. Lines are counted in elements, all else in bytes. */
+ * written. 1, 2, 3, or 10 to 26 and their place; each with nothing touched; or 0. Lines are counted in elements, all else in bytes. */
 OARCRADLER_NODISCARD uint32_t oarcradler_read_channel(
     const uint8_t *buffer, uint64_t buffer_size, uint64_t start, uint64_t end, uint32_t index,
     int16_t *lines, uint64_t line_count,
@@ -230,8 +252,9 @@ OARCRADLER_NODISCARD uint32_t oarcradler_find_part(
     const uint8_t *image, uint64_t image_size, uint32_t k,
     uint8_t *answer, uint64_t answer_size);
 
-/* The ADTS frame that starts at a byte of a file: lines, scale factors, books and the answer are written. 1 where the start is past the file;
- * 2; 10, 50, 51, 52 of the header; 10 to 26, 53 of the block; 12; each with nothing touched; or 0. Lines are counted in elements. */
+/* The ADTS frame that starts at a byte of a file: lines, scale factors, books and the answer are written. 1 where the start is past the
+ * file; 2; 10, 50, 51, 52 of the header; 10 to 26, 53 of the block, 12, and their place in the frame; each with nothing touched; or 0.
+ * Lines are counted in elements. */
 OARCRADLER_NODISCARD uint32_t oarcradler_read_frame(
     const uint8_t *file, uint64_t file_size, uint64_t start,
     int16_t *lines, uint64_t line_count,
@@ -240,15 +263,16 @@ OARCRADLER_NODISCARD uint32_t oarcradler_read_frame(
     uint8_t *answer, uint64_t answer_size);
 
 /* The channel stream of the ADTS frame that starts at a byte of a file is written, its last byte filled up with zero bits, and the frame's
- * answer. 1, 2 for the answer, then as oarcradler_read_frame refuses, last 2 where the stream doesn't fit; each with nothing touched; or
- * 0. */
+ * answer. 1, 2 for the answer, then as oarcradler_read_frame refuses, with its place, last 2 where the stream doesn't fit; each with
+ * nothing touched; or 0. */
 OARCRADLER_NODISCARD uint32_t oarcradler_unwrap_frame(
     const uint8_t *file, uint64_t file_size, uint64_t start,
     uint8_t *out, uint64_t out_size,
     uint8_t *answer, uint64_t answer_size);
 
 /* The channel stream in bytes start to end (not included) of a buffer, for a sampling index, is written as one ADTS frame, and the frame's
- * length as a word. 1, 2 for the answer, 3, 10 to 26, 12, last 2 where the frame doesn't fit; each with nothing touched; or 0. */
+ * length as a word. 1, 2 for the answer, 3, then 10 to 26, 12 and their place in the payload, last 2 where the frame doesn't fit; each with
+ * nothing touched; or 0. */
 OARCRADLER_NODISCARD uint32_t oarcradler_wrap_stream(
     const uint8_t *buffer, uint64_t buffer_size, uint64_t start, uint64_t end, uint32_t index,
     uint8_t *out, uint64_t out_size,

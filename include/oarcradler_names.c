@@ -35,23 +35,23 @@ static const struct {
     { OARCRADLER_REFUSED_OTHER_ELEMENT, "OTHER_ELEMENT", "another element than the channel's or, after it, than the end" },
 };
 
-/* Where a number stands; past the last where it is none. */
-static size_t place_of(uint32_t number)
+/* The row of the number that was returned; past the last where it is none. */
+static size_t row_of(uint32_t returned)
 {
-    size_t place = 0;
-    while (place < sizeof numbers / sizeof *numbers && numbers[place].number != number)
-        place++;
-    return place;
+    size_t row = 0;
+    while (row < sizeof numbers / sizeof *numbers && numbers[row].number != oarcradler_number(returned))
+        row++;
+    return row;
 }
 
-const char *oarcradler_name(uint32_t number)
+const char *oarcradler_name(uint32_t returned)
 {
-    size_t place = place_of(number);
-    return place < sizeof numbers / sizeof *numbers ? numbers[place].name : "UNKNOWN";
+    size_t row = row_of(returned);
+    return row < sizeof numbers / sizeof *numbers ? numbers[row].name : "UNKNOWN";
 }
 
-const char *oarcradler_sentence(uint32_t number)
+const char *oarcradler_sentence(uint32_t returned)
 {
-    size_t place = place_of(number);
-    return place < sizeof numbers / sizeof *numbers ? numbers[place].sentence : "no number that comes back";
+    size_t row = row_of(returned);
+    return row < sizeof numbers / sizeof *numbers ? numbers[row].sentence : "no number that comes back";
 }

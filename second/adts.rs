@@ -1,6 +1,6 @@
 //! ADTS: one frame of a file read, the channel stream in it cut out, and a channel stream wrapped as a frame.
 
-use crate::bits::{Bits, Number, Tables, Written};
+use crate::bits::{Bits, Refusal, Tables, Written};
 use crate::channel::{self, Channel};
 
 const HEADER_BYTES: usize = 7;
@@ -28,20 +28,20 @@ pub struct Frame {
     pub stream: Vec<u8>,
 }
 
-/// A refusal's number, with the header where that was accepted.
+/// A refusal, with the header where that was accepted.
 pub struct Refused {
-    pub number: Number,
+    pub refusal: Refusal,
     pub header: Option<Header>,
 }
 
-/// The header of a frame that has these bytes, and whatever the file has after it.
-fn header(rest: &[u8]) -> Result<Header, Number> {
+/// The header of a frame that has these bytes, and whatever the file has after it. It is there as a whole or not at all.
+fn header(rest: &[u8]) -> Result<Header, Refusal> {
+    let mut b = Bits::new(rest);
     if rest.len() < HEADER_BYTES {
-        return Err(10);
+        return Err(b.refusal(10));
     }
-    let mut b = Bits::new(&rest[..HEADER_BYTES]);
     if b.field(12)? != SYNC {
-        return Err(50);
+        return Err(Refusal::of_no_bit(50));
     }
     let _version = b.field(1)?;
     let layer = b.field(2)?;
@@ -55,32 +55,24 @@ fn header(rest: &[u8]) -> Result<Header, Number> {
     let _fullness = b.field(11)?;
     let more_blocks = b.field(2)?;
     if (layer, protection_absent, profile, channels, more_blocks) != (0, 1, LOW_COMPLEXITY, 1, 0) || ![3, 4, 6, 7].contains(&index) {
-        return Err(51);
+        return Err(Refusal::of_no_bit(51));
     }
     if length < HEADER_BYTES || length > rest.len() {
-        return Err(52);
+        return Err(Refusal::of_no_bit(52));
     }
     Ok(Header { index, length })
 }
 
-/// An element's id, which has to be this one.
-fn element(b: &mut Bits, wanted: u32) -> Result<(), Number> {
-    if b.field(ID_BITS)? == wanted {
-        Ok(())
-    } else {
-        Err(53)
-    }
-}
-
-/// The raw block, from after the header to the frame's end: the channel's numbers, and the bytes of its stream.
-fn raw_block(frame: &[u8], index: u32, tables: &Tables) -> Result<(Channel, Vec<u8>), Number> {
+/// The raw block, from after the header to the frame's end: the channel's numbers, and the bytes of its stream. Places count from the
+/// frame's first bit.
+fn raw_block(frame: &[u8], index: u32, tables: &Tables) -> Result<(Channel, Vec<u8>), Refusal> {
     let mut b = Bits::new(frame);
     b.at = HEADER_BITS;
-    element(&mut b, CHANNEL_ELEMENT)?;
+    b.judged(ID_BITS, 53, |id| id == CHANNEL_ELEMENT)?;
     let _tag = b.field(TAG_BITS)?;
     let mut stream = b.clone();
     let found = channel::read_from(&mut b, index, tables)?;
-    element(&mut b, END_ELEMENT)?;
+    b.judged(ID_BITS, 53, |id| id == END_ELEMENT)?;
     b.nearly_done()?;
     let mut cut = Written::default();
     cut.copy(&mut stream, found.bits);
@@ -89,16 +81,16 @@ fn raw_block(frame: &[u8], index: u32, tables: &Tables) -> Result<(Channel, Vec<
 
 /// The frame that starts at a byte of a file.
 pub fn read(file: &[u8], start: usize, tables: &Tables) -> Result<Frame, Refused> {
-    let rest = file.get(start..).ok_or(Refused { number: 1, header: None })?;
-    let header = header(rest).map_err(|number| Refused { number, header: None })?;
+    let rest = file.get(start..).ok_or(Refused { refusal: Refusal::of_no_bit(1), header: None })?;
+    let header = header(rest).map_err(|refusal| Refused { refusal, header: None })?;
     match raw_block(&rest[..header.length], header.index, tables) {
         Ok((channel, stream)) => Ok(Frame { header, channel, stream }),
-        Err(number) => Err(Refused { number, header: Some(header) }),
+        Err(refusal) => Err(Refused { refusal, header: Some(header) }),
     }
 }
 
 /// The frame that wraps the stream of a channel payload; refused as the payload is.
-pub fn wrap(payload: &[u8], index: u32, tables: &Tables) -> Result<Vec<u8>, Number> {
+pub fn wrap(payload: &[u8], index: u32, tables: &Tables) -> Result<Vec<u8>, Refusal> {
     let used = channel::read(payload, index, tables)?.bits;
     let length = (HEADER_BITS + ID_BITS + TAG_BITS + used + ID_BITS + 7) / 8;
     let mut out = Written::default();

@@ -1,7 +1,32 @@
-//! Bits of a payload, most significant first, up to an end; and words of a code table.
+//! Bits of a payload, most significant first, up to an end; words of a code table; and refusals, which know the bit that they judged.
+
+use std::fmt::{Display, Formatter};
 
 /// A refusal's number.
 pub type Number = u8;
+
+/// A refusal: its number, and the first bit of the field that it judged, where it judged one.
+#[derive(Clone, Copy)]
+pub struct Refusal {
+    pub number: Number,
+    pub place: Option<usize>,
+}
+
+impl Refusal {
+    /// A refusal that judged no bit.
+    pub fn of_no_bit(number: Number) -> Refusal {
+        Refusal { number, place: None }
+    }
+}
+
+impl Display for Refusal {
+    fn fmt(&self, out: &mut Formatter) -> std::fmt::Result {
+        match self.place {
+            Some(place) => write!(out, "{} at {place}", self.number),
+            None => write!(out, "{}", self.number),
+        }
+    }
+}
 
 #[derive(Clone)]
 pub struct Bits<'a> {
@@ -19,55 +44,74 @@ impl<'a> Bits<'a> {
         self.end - self.at
     }
 
+    /// A refusal of the field that comes next.
+    pub fn refusal(&self, number: Number) -> Refusal {
+        Refusal { number, place: Some(self.at) }
+    }
+
     fn bit(&mut self) -> u32 {
         let bit = self.bytes[self.at / 8] >> (7 - self.at % 8) & 1;
         self.at += 1;
         bit as u32
     }
 
-    /// A field: 10 where it is not wholly there.
-    pub fn field(&mut self, n: usize) -> Result<u32, Number> {
+    /// A number of so many bits, where they are all there.
+    fn number(&mut self, n: usize) -> Option<u32> {
         if self.left() < n {
-            return Err(10);
+            return None;
         }
-        Ok((0..n).fold(0, |value, _| value << 1 | self.bit()))
+        Some((0..n).fold(0, |value, _| value << 1 | self.bit()))
     }
 
-    /// The end of what is read: 12 where more than 7 bits are left.
-    pub fn nearly_done(&self) -> Result<(), Number> {
+    /// A field: 10 where it is not wholly there.
+    pub fn field(&mut self, n: usize) -> Result<u32, Refusal> {
+        let cut = self.refusal(10);
+        self.number(n).ok_or(cut)
+    }
+
+    /// A field that is judged once it is there: this number where it does not stand.
+    pub fn judged(&mut self, n: usize, number: Number, stands: impl Fn(u32) -> bool) -> Result<u32, Refusal> {
+        let wrong = self.refusal(number);
+        let value = self.field(n)?;
+        if stands(value) {
+            Ok(value)
+        } else {
+            Err(wrong)
+        }
+    }
+
+    /// The end of what is read: 12, at the first bit unused, where more than 7 bits are left.
+    pub fn nearly_done(&self) -> Result<(), Refusal> {
         if self.left() > 7 {
-            return Err(12);
+            return Err(self.refusal(12));
         }
         Ok(())
     }
 
-    /// A word of a table, its entry.
-    pub fn word(&mut self, table: &Table) -> Result<usize, Number> {
+    /// A word of a table, its entry: 10 where the bits end inside a word, 11 where no word fits, both at its first bit.
+    pub fn word(&mut self, table: &Table) -> Result<usize, Refusal> {
+        let (cut, no_word) = (self.refusal(10), self.refusal(11));
         let mut node = 0;
         loop {
             if let Some(entry) = table.nodes[node].entry {
                 return Ok(entry);
             }
-            if self.left() == 0 {
-                return Err(10);
-            }
-            match table.nodes[node].next[self.bit() as usize] {
-                Some(next) => node = next,
-                None => return Err(11),
-            }
+            let bit = self.number(1).ok_or(cut)?;
+            node = table.nodes[node].next[bit as usize].ok_or(no_word)?;
         }
     }
 
-    /// An escape of book 11: N ones, a zero, N + 4 bits.
-    pub fn escape(&mut self) -> Result<u32, Number> {
+    /// An escape of book 11, which is one field: N ones, a zero, N + 4 bits.
+    pub fn escape(&mut self) -> Result<u32, Refusal> {
+        let (cut, too_large) = (self.refusal(10), self.refusal(26));
         let mut ones = 0;
-        while self.field(1)? == 1 {
+        while self.number(1).ok_or(cut)? == 1 {
             ones += 1;
             if ones == 9 {
-                return Err(26);
+                return Err(too_large);
             }
         }
-        Ok((1 << (ones + 4)) + self.field(ones + 4)?)
+        Ok((1 << (ones + 4)) + self.number(ones + 4).ok_or(cut)?)
     }
 }
 

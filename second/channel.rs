@@ -1,6 +1,6 @@
 //! One AAC channel stream.
 
-use crate::bits::{Bits, Number, Tables};
+use crate::bits::{Bits, Refusal, Tables};
 
 pub struct Channel {
     pub gain: u32,
@@ -50,61 +50,83 @@ fn grouped(bits: u32) -> Vec<usize> {
     groups
 }
 
-fn section_books(b: &mut Bits, short: bool, max_sfb: usize) -> Result<Vec<u32>, Number> {
-    let width = if short { 3 } else { 5 };
+/// The length of a section that has so much room: each increment is judged by the length so far.
+fn section_length(b: &mut Bits, width: usize, room: usize) -> Result<usize, Refusal> {
+    let mut length = 0;
+    loop {
+        let more = b.judged(width, 22, |more| (1..=room).contains(&(length + more as usize)))? as usize;
+        length += more;
+        if more != (1 << width) - 1 {
+            return Ok(length);
+        }
+    }
+}
+
+fn section_books(b: &mut Bits, short: bool, max_sfb: usize) -> Result<Vec<u32>, Refusal> {
     let mut books = Vec::new();
     while books.len() < max_sfb {
-        let book = b.field(4)?;
-        if book > 11 {
-            return Err(23);
-        }
-        let mut length = 0;
-        loop {
-            let more = b.field(width)? as usize;
-            length += more;
-            if length == 0 || books.len() + length > max_sfb {
-                return Err(22);
-            }
-            if more != (1 << width) - 1 {
-                break;
-            }
-        }
+        let book = b.judged(4, 23, |book| book <= 11)?;
+        let length = section_length(b, if short { 3 } else { 5 }, max_sfb - books.len())?;
         books.extend(std::iter::repeat(book).take(length));
     }
     Ok(books)
 }
 
+/// The scale factor of each band: a difference to the last one where its book is not 0.
+fn scale_factors(b: &mut Bits, books: &[u32], gain: u32, tables: &Tables) -> Result<Vec<i32>, Refusal> {
+    let (mut factors, mut last) = (Vec::new(), gain as i32);
+    for &book in books {
+        if book == 0 {
+            factors.push(0);
+            continue;
+        }
+        let outside = b.refusal(24);
+        last += b.word(tables.get("scale_factor"))? as i32 - 60;
+        if !(0..=255).contains(&last) {
+            return Err(outside);
+        }
+        factors.push(last);
+    }
+    Ok(factors)
+}
+
+/// A pulse: its line, its amplitude, and the refusal that stands at its first bit should it be too much for the line.
 struct Pulse {
     line: usize,
     amplitude: i32,
+    too_large: Refusal,
 }
 
-fn pulses(b: &mut Bits, short: bool, long_bands: &[usize]) -> Result<Vec<Pulse>, Number> {
+fn pulses(b: &mut Bits, short: bool, long_bands: &[usize]) -> Result<Vec<Pulse>, Refusal> {
     let mut found = Vec::new();
-    if b.field(1)? == 0 {
+    if b.judged(1, 25, |flag| flag == 0 || !short)? == 0 {
         return Ok(found);
     }
-    if short {
-        return Err(25);
-    }
     let count = b.field(2)? + 1;
-    let start = b.field(6)? as usize;
-    if start >= long_bands.len() - 1 {
-        return Err(25);
-    }
-    let mut line = long_bands[start];
+    let start = b.judged(6, 25, |band| (band as usize) < long_bands.len() - 1)?;
+    let mut line = long_bands[start as usize];
     for _ in 0..count {
-        line += b.field(5)? as usize;
-        if line > 1023 {
-            return Err(25);
-        }
-        found.push(Pulse { line, amplitude: b.field(4)? as i32 });
+        let too_large = b.refusal(26);
+        line += b.judged(5, 25, |offset| line + offset as usize <= 1023)? as usize;
+        found.push(Pulse { line, amplitude: b.field(4)? as i32, too_large });
     }
     Ok(found)
 }
 
+/// The pulses put on their lines, one after another.
+fn add_pulses(pulses: &[Pulse], lines: &mut [i32]) -> Result<(), Refusal> {
+    for pulse in pulses {
+        let line = &mut lines[pulse.line];
+        *line += if *line > 0 { pulse.amplitude } else { -pulse.amplitude };
+        if line.abs() > 8191 {
+            return Err(pulse.too_large);
+        }
+    }
+    Ok(())
+}
+
 /// The values of a word, with its signs and escapes.
-fn tuple(b: &mut Bits, book: u32, tables: &Tables) -> Result<Vec<i32>, Number> {
+fn tuple(b: &mut Bits, book: u32, tables: &Tables) -> Result<Vec<i32>, Refusal> {
     let (count, base, signed) = match book {
         1 | 2 => (4, 3, true),
         3 | 4 => (4, 3, false),
@@ -136,58 +158,9 @@ fn tuple(b: &mut Bits, book: u32, tables: &Tables) -> Result<Vec<i32>, Number> {
     Ok(values)
 }
 
-/// A payload: a channel stream from its first bit, and at most 7 bits after it.
-pub fn read(bytes: &[u8], index: u32, tables: &Tables) -> Result<Channel, Number> {
-    let mut b = Bits::new(bytes);
-    let found = read_from(&mut b, index, tables)?;
-    b.nearly_done()?;
-    Ok(found)
-}
-
-/// A channel stream from the place where the bits stand; what comes after it is not looked at.
-pub fn read_from(b: &mut Bits, index: u32, tables: &Tables) -> Result<Channel, Number> {
-    let start = b.at;
-    let gain = b.field(8)?;
-    if b.field(1)? == 1 {
-        return Err(13);
-    }
-    let sequence = b.field(2)?;
-    let shape = b.field(1)?;
-    let short = sequence == 2;
-    let edges = bands(index, short);
-    let max_sfb = b.field(if short { 4 } else { 6 })? as usize;
-    if max_sfb > edges.len() - 1 {
-        return Err(21);
-    }
-    let groups = if short { grouped(b.field(7)?) } else { vec![1] };
-    if !short && b.field(1)? == 1 {
-        return Err(20);
-    }
-    let mut books = Vec::new();
-    for _ in &groups {
-        books.extend(section_books(b, short, max_sfb)?);
-    }
-    let mut factors = Vec::new();
-    let mut last = gain as i32;
-    for &book in &books {
-        if book == 0 {
-            factors.push(0);
-            continue;
-        }
-        last += b.word(tables.get("scale_factor"))? as i32 - 60;
-        if !(0..=255).contains(&last) {
-            return Err(24);
-        }
-        factors.push(last);
-    }
-    let pulses = pulses(b, short, &bands(index, false))?;
-    for _ in 0..2 {
-        if b.field(1)? == 1 {
-            return Err(20);
-        }
-    }
-    let mut lines = vec![0; 1024];
-    let mut first_window = 0;
+/// All lines in window order, from the words of each band of each window.
+fn spectrum(b: &mut Bits, groups: &[usize], edges: &[usize], books: &[u32], tables: &Tables) -> Result<Vec<i32>, Refusal> {
+    let (mut lines, mut first_window, max_sfb) = (vec![0; 1024], 0, books.len() / groups.len());
     for (group, &windows) in groups.iter().enumerate() {
         for band in 0..max_sfb {
             let book = books[group * max_sfb + band];
@@ -203,12 +176,41 @@ pub fn read_from(b: &mut Bits, index: u32, tables: &Tables) -> Result<Channel, N
         }
         first_window += windows;
     }
-    for pulse in pulses {
-        let line = &mut lines[pulse.line];
-        *line += if *line > 0 { pulse.amplitude } else { -pulse.amplitude };
-        if line.abs() > 8191 {
-            return Err(26);
-        }
+    Ok(lines)
+}
+
+/// A payload: a channel stream from its first bit, and at most 7 bits after it.
+pub fn read(bytes: &[u8], index: u32, tables: &Tables) -> Result<Channel, Refusal> {
+    let mut b = Bits::new(bytes);
+    let found = read_from(&mut b, index, tables)?;
+    b.nearly_done()?;
+    Ok(found)
+}
+
+/// A channel stream from the place where the bits stand; what comes after it is not looked at.
+pub fn read_from(b: &mut Bits, index: u32, tables: &Tables) -> Result<Channel, Refusal> {
+    let start = b.at;
+    let off = |flag| flag == 0;
+    let gain = b.field(8)?;
+    let _reserved = b.judged(1, 13, off)?;
+    let sequence = b.field(2)?;
+    let shape = b.field(1)?;
+    let short = sequence == 2;
+    let edges = bands(index, short);
+    let max_sfb = b.judged(if short { 4 } else { 6 }, 21, |bands| (bands as usize) < edges.len())? as usize;
+    let groups = if short { grouped(b.field(7)?) } else { vec![1] };
+    if !short {
+        let _prediction = b.judged(1, 20, off)?;
     }
+    let mut books = Vec::new();
+    for _ in &groups {
+        books.extend(section_books(b, short, max_sfb)?);
+    }
+    let factors = scale_factors(b, &books, gain, tables)?;
+    let pulses = pulses(b, short, &bands(index, false))?;
+    let _tns = b.judged(1, 20, off)?;
+    let _gain_control = b.judged(1, 20, off)?;
+    let mut lines = spectrum(b, &groups, &edges, &books, tables)?;
+    add_pulses(&pulses, &mut lines)?;
     Ok(Channel { gain, sequence, shape, max_sfb, groups, books, factors, lines, bits: b.at - start })
 }

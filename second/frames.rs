@@ -19,7 +19,7 @@ fn cut_rows(frame: &Frame, tables: &Tables, out: &mut String) {
     *out += &format!("  stream {}\n", hex(&frame.stream));
     match adts::wrap(&frame.stream, frame.header.index, tables) {
         Ok(wrapped) => *out += &format!("  frame {}\n", hex(&wrapped)),
-        Err(number) => *out += &format!("  frame refused {number}\n"),
+        Err(refusal) => *out += &format!("  frame refused {refusal}\n"),
     }
 }
 
@@ -31,7 +31,7 @@ fn line(frame: &Frame) -> String {
 
 /// The length of a refused frame, where a next frame is known.
 fn length_of(refused: &Refused) -> Option<usize> {
-    match refused.number {
+    match refused.refusal.number {
         10 | 50 | 51 | 52 => None,
         _ => refused.header.map(|header| header.length),
     }
@@ -50,7 +50,7 @@ pub fn listing(file: &[u8], cut: bool, tables: &Tables) -> String {
                 Some(frame.header.length)
             }
             Err(refused) => {
-                out += &format!("{number} frame at {start} refused {}\n", refused.number);
+                out += &format!("{number} frame at {start} refused {}\n", refused.refusal);
                 length_of(&refused)
             }
         };
@@ -81,7 +81,8 @@ fn streams(file: &[u8], tables: &Tables) -> Result<(u32, Vec<Vec<u8>>), String> 
     let (mut index, mut found, mut start, mut size) = (None, Vec::new(), 0, 6);
     while start < file.len() {
         let number = found.len();
-        let frame = adts::read(file, start, tables).map_err(|refused| format!("frame {number} at {start} refused {}", refused.number))?;
+        let fault = |refused: Refused| format!("frame {number} at {start} refused {}", refused.refusal.number);
+        let frame = adts::read(file, start, tables).map_err(fault)?;
         if *index.get_or_insert(frame.header.index) != frame.header.index {
             return Err(format!("frame {number} at {start} has another sampling index than the first frame"));
         }

@@ -8,7 +8,7 @@ mod channel;
 mod frames;
 mod stereo;
 
-use bits::{Number, Tables};
+use bits::{Number, Refusal, Tables};
 use channel::Channel;
 use std::fmt::Display;
 use std::io::{Read, Write};
@@ -99,12 +99,22 @@ fn dump_contents(contents: &Contents, out: &mut String) {
 
 fn dump_state(state: &State, out: &mut String) {
     let flags = [state.iid_on, state.icc_on, state.ext_on].map(|flag| flag as u8);
-    *out += &format!("  state iid {} icc {} enabled{} step {}\n", or_dash(state.iid_mode), or_dash(state.icc_mode), joined(flags), state.in_step as u8);
+    *out += &format!("  state iid {} icc {}", or_dash(state.iid_mode), or_dash(state.icc_mode));
+    *out += &format!(" enabled{} step {}\n", joined(flags), state.in_step as u8);
     for (name, record) in KINDS.iter().zip(&state.records) {
         match record {
             None => *out += &format!("  record {name} -\n"),
             Some((mode, indices)) => *out += &format!("  record {name} {mode}{}\n", joined(indices)),
         }
+    }
+}
+
+/// A refused payload's line: a dump tells the place too.
+fn refused_line(number: usize, what: &str, refusal: Refusal, dump: bool) -> String {
+    if dump {
+        format!("{number} {what} refused {refusal}\n")
+    } else {
+        format!("{number} {what} refused {}\n", refusal.number)
     }
 }
 
@@ -117,7 +127,7 @@ fn printed_image(bytes: &[u8], dump: bool, tables: &Tables) -> Result<String, Nu
         let part = &bytes[ends[0]..ends[1]];
         if number % 2 == 0 {
             match channel::read(part, image.index, tables) {
-                Err(refusal) => *out += &format!("{number} channel refused {refusal}\n"),
+                Err(refusal) => *out += &refused_line(number, "channel", refusal, dump),
                 Ok(found) => {
                     *out += &format!("{number} channel gain {} lines {} bits {}\n", found.gain, set_lines(&found), found.bits);
                     if dump {
@@ -128,7 +138,7 @@ fn printed_image(bytes: &[u8], dump: bool, tables: &Tables) -> Result<String, Nu
             continue;
         }
         match stereo::read(part, &mut state, tables) {
-            Err(refusal) => *out += &format!("{number} stereo refused {refusal}\n"),
+            Err(refusal) => *out += &refused_line(number, "stereo", refusal, dump),
             Ok((contents, used)) => {
                 *out += &format!("{number} stereo envelopes {} bits {used}\n", contents.envelopes.len());
                 if dump {

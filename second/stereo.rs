@@ -1,6 +1,6 @@
 //! One parametric stereo payload, and the state that is carried from payload to payload.
 
-use crate::bits::{Bits, Number, Tables};
+use crate::bits::{Bits, Refusal, Tables};
 
 pub const KINDS: [&str; 4] = ["iid", "icc", "ipd", "opd"];
 const IID: usize = 0;
@@ -67,17 +67,14 @@ pub struct Contents {
     pub extension: Option<Extension>,
 }
 
-fn mode(b: &mut Bits) -> Result<Option<u32>, Number> {
+fn mode(b: &mut Bits) -> Result<Option<u32>, Refusal> {
     if b.field(1)? == 0 {
         return Ok(None);
     }
-    match b.field(3)? {
-        mode @ 0..=5 => Ok(Some(mode)),
-        _ => Err(13),
-    }
+    b.judged(3, 13, |mode| mode <= 5).map(Some)
 }
 
-fn header(b: &mut Bits) -> Result<Option<Header>, Number> {
+fn header(b: &mut Bits) -> Result<Option<Header>, Refusal> {
     if b.field(1)? == 0 {
         return Ok(None);
     }
@@ -105,17 +102,16 @@ fn table_name(kind: usize, fine: bool, time: bool) -> String {
 }
 
 /// A kind of one envelope, coded in a mode against the record so far.
-fn coded(b: &mut Bits, kind: usize, mode: u32, record: &mut Option<(u32, Indices)>, tables: &Tables) -> Result<Coded, Number> {
-    let time = b.field(1)? == 1;
-    if time && record.map_or(false, |held| held.0 != mode) {
-        return Err(31);
-    }
+fn coded(b: &mut Bits, kind: usize, mode: u32, record: &mut Option<(u32, Indices)>, tables: &Tables) -> Result<Coded, Refusal> {
+    let other_mode = record.map_or(false, |held| held.0 != mode);
+    let time = b.judged(1, 31, |flag| flag == 0 || !other_mode)? == 1;
     let before = record.map_or([0; 34], |held| held.1);
     let fine = mode >= 3;
     let table = tables.get(&table_name(kind, fine, time));
     let mut indices = [0; 34];
     let mut last = 0;
     for band in 0..bands(kind, mode) {
+        let outside = b.refusal(32);
         let entry = b.word(table)? as i32;
         let from = if time { before[band] } else { last };
         let index = match kind {
@@ -129,7 +125,7 @@ fn coded(b: &mut Bits, kind: usize, mode: u32, record: &mut Option<(u32, Indices
             _ => 0..=7,
         };
         if !range.contains(&index) {
-            return Err(32);
+            return Err(outside);
         }
         indices[band] = index;
         last = index;
@@ -138,44 +134,33 @@ fn coded(b: &mut Bits, kind: usize, mode: u32, record: &mut Option<(u32, Indices
     Ok(Coded { time: Some(time), indices })
 }
 
-/// Inside the extension a field that passes its end is 33.
-fn inside(number: Number) -> Number {
-    if number == 10 {
-        33
-    } else {
-        number
-    }
+/// Inside the extension a field that passes its end is 33, where it would be 10.
+fn inside(refusal: Refusal) -> Refusal {
+    Refusal { number: if refusal.number == 10 { 33 } else { refusal.number }, ..refusal }
 }
 
-fn version_0(b: &mut Bits, state: &mut State, envelopes: &mut [[Coded; 4]], tables: &Tables) -> Result<bool, Number> {
-    if b.field(2)? != 0 {
-        return Err(13);
-    }
-    let phase = b.field(1)? == 1;
+fn version_0(b: &mut Bits, state: &mut State, envelopes: &mut [[Coded; 4]], tables: &Tables) -> Result<bool, Refusal> {
+    b.judged(2, 13, |id| id == 0)?;
+    let phase = b.judged(1, 34, |flag| flag == 0 || state.iid_mode.is_some())? == 1;
     if phase {
-        let mode = match state.iid_mode {
-            Some(mode) => mode,
-            None => return Err(34),
-        };
+        let mode = state.iid_mode.expect("a mode was sent before phases");
         for envelope in envelopes.iter_mut() {
             for kind in [IPD, OPD] {
                 envelope[kind] = coded(b, kind, mode, &mut state.records[kind], tables)?;
             }
         }
     }
-    if b.field(1)? != 0 {
-        return Err(13);
-    }
+    let _reserved = b.judged(1, 13, |bit| bit == 0)?;
     Ok(phase)
 }
 
-fn extension(b: &mut Bits, state: &mut State, envelopes: &mut [[Coded; 4]], tables: &Tables) -> Result<Extension, Number> {
+fn extension(b: &mut Bits, state: &mut State, envelopes: &mut [[Coded; 4]], tables: &Tables) -> Result<Extension, Refusal> {
     let mut size = b.field(4)? as usize;
     if size == 15 {
         size += b.field(8)? as usize;
     }
     if b.left() < 8 * size {
-        return Err(10);
+        return Err(b.refusal(10));
     }
     let mut part = b.clone();
     part.end = part.at + 8 * size;
@@ -186,7 +171,8 @@ fn extension(b: &mut Bits, state: &mut State, envelopes: &mut [[Coded; 4]], tabl
     }
     found.phase = Some(version_0(&mut part, state, envelopes, tables).map_err(inside)?);
     if part.left() > 7 {
-        return Err(if part.field(2)? == 0 { 33 } else { 13 });
+        let (second, unknown) = (part.refusal(33), part.refusal(13));
+        return Err(if part.field(2)? == 0 { second } else { unknown });
     }
     while part.left() > 0 {
         found.fill.push(part.field(1)? == 1);
@@ -195,7 +181,7 @@ fn extension(b: &mut Bits, state: &mut State, envelopes: &mut [[Coded; 4]], tabl
 }
 
 /// Contents read from a state, which becomes the one after them; without 12 and 35.
-fn payload(b: &mut Bits, state: &mut State, tables: &Tables) -> Result<Contents, Number> {
+fn payload(b: &mut Bits, state: &mut State, tables: &Tables) -> Result<Contents, Refusal> {
     let header = header(b)?;
     if let Some(sent) = &header {
         state.iid_on = sent.iid.is_some();
@@ -238,28 +224,29 @@ fn restart(contents: &Contents) -> bool {
     both_on && contents.envelopes.first().map_or(false, |first| first.iter().all(|coded| coded.time != Some(true)))
 }
 
-/// A payload; a refusal sets the state's mark and nothing else.
-pub fn read(bytes: &[u8], state: &mut State, tables: &Tables) -> Result<(Contents, usize), Number> {
+/// A whole payload read from a state: the state after it, its contents, and the bits that they use.
+fn whole(bytes: &[u8], state: &State, tables: &Tables) -> Result<(State, Contents, usize), Refusal> {
     let mut b = Bits::new(bytes);
     let mut next = if state.in_step { state.clone() } else { State::fresh() };
-    let mut answer = payload(&mut b, &mut next, tables);
-    if answer.is_ok() && b.left() > 7 {
-        answer = Err(12);
+    let contents = payload(&mut b, &mut next, tables)?;
+    b.nearly_done()?;
+    if state.in_step || restart(&contents) {
+        Ok((next, contents, b.at))
+    } else {
+        Err(b.refusal(35))
     }
-    if let Ok(contents) = &answer {
-        if !state.in_step && !restart(contents) {
-            answer = Err(35);
-        }
-    }
-    match answer {
-        Ok(contents) => {
-            next.in_step = true;
+}
+
+/// A payload; a refusal sets the state's mark and nothing else.
+pub fn read(bytes: &[u8], state: &mut State, tables: &Tables) -> Result<(Contents, usize), Refusal> {
+    match whole(bytes, state, tables) {
+        Ok((next, contents, used)) => {
             *state = next;
-            Ok((contents, b.at))
+            Ok((contents, used))
         }
-        Err(number) => {
+        Err(refusal) => {
             state.in_step = false;
-            Err(number)
+            Err(refusal)
         }
     }
 }

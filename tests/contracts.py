@@ -4,7 +4,9 @@ import os
 import re
 
 TOP = os.path.dirname(os.path.dirname(os.path.abspath(__file__)))
-FUNCTION = re.compile(r'^(?P<public>pub )?(?:extern "C" )?fn (?P<name>\w+)(?P<head>.*?)(?:\n\{| \{\n)', re.M | re.S)
+# A function's head ends before its brace, which stands on a line of its own where there is a contract.
+PLAIN, WITH_CONTRACT = r"(?:(?!\n\s+(?:requires|ensures)\b).)*?(?= \{\n)", r".*?(?=\n\{)"
+FUNCTION = re.compile(rf'^(?P<public>pub )?(?:extern "C" )?fn (?P<name>\w+)(?P<head>{PLAIN}|{WITH_CONTRACT})', re.M | re.S)
 
 
 class Function:

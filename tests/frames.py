@@ -3,7 +3,8 @@ import functools
 import os
 import random
 
-from generate import SHORT_BANDS, TOP, WORDS, bits, channel_bits, damaged, packed
+from generate import (LARGEST, SHORT_BANDS, TOO_LARGE, TOP, WORDS, bits, channel_bits, damaged, escape_band, faulty_streams, packed,
+                      pulses)
 
 INDICES = (3, 4, 6, 7)
 # The header's fields, in order, with their bits; those that are not judged; and of the others, but for the length, the numbers that stand.
@@ -127,19 +128,11 @@ def sized_stream(size):
     return escape_band(["1" * n + "0" * (n + 5) for n in (min(8, max(0, ones - 8 * k)) for k in range(4))])
 
 
-def escape_band(escapes, pulses="0", signs="00"):
-    """A stream of a single band, whose four lines are escapes."""
-    pair = WORDS["book_11"][288] + signs
-    side = bits(100, 8) + "0000" + bits(1, 6) + "0" + bits(11, 4) + bits(1, 5) + WORDS["scale_factor"][60] + pulses + "00"
-    return side + pair + escapes[0] + escapes[1] + pair + escapes[2] + escapes[3]
-
-
 def loud_blocks(rng):
     """Lines of 8191 with pulses on them, and escapes that pass it, before end elements that are there, at fault, and cut off."""
-    largest, too_large = "1" * 8 + "0" + "1" * 12, "1" * 9
-    pulses = ["1" + bits(0, 2) + bits(0, 6) + bits(line, 5) + bits(amplitude, 4) for line in (0, 3) for amplitude in (0, 1, 15)]
-    streams = [escape_band([largest] * 4, pulse, signs) for pulse in pulses for signs in ("00", "11")]
-    streams += [escape_band([largest] * k + [too_large] + [largest] * (3 - k)) for k in range(4)]
+    sent = [pulses(0, [(line, amplitude)]) for line in (0, 3) for amplitude in (0, 1, 15)]
+    streams = [escape_band([LARGEST] * 4, pulse, signs) for pulse in sent for signs in ("00", "11")]
+    streams += [escape_band([LARGEST] * k + [TOO_LARGE] + [LARGEST] * (3 - k)) for k in range(4)]
     for index in INDICES:
         frames = []
         for stream in streams:
@@ -314,6 +307,12 @@ def noisy_files(rng):
     yield b"\xff" * 5000
 
 
+def faulty_blocks(rng):
+    """Each pulse and each escape at fault in its turn."""
+    for index in INDICES:
+        yield b"".join(free_frame(rng, index, stream) for stream in faulty_streams(index))
+
+
 @functools.lru_cache
 def real_files():
     """The files of real encoders."""
@@ -330,5 +329,5 @@ def made_files():
     """Every made file."""
     rng = random.Random(20270109)
     makers = (sound_files, published_files, long_files, loud_blocks, damaged_files, noise_blocks, cut_blocks, left_bits, other_elements,
-              faulty_fields, faulty_together, lengths, cut_files, flipped_files, noisy_files)
+              faulty_fields, faulty_together, lengths, cut_files, flipped_files, noisy_files, faulty_blocks)
     return [data for maker in makers for data in maker(rng)]

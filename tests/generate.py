@@ -35,6 +35,11 @@ def bits(value, size):
     return format(value, f"0{size}b") if size else ""
 
 
+def any_bits(rng, size):
+    """So many bits at random."""
+    return "".join(rng.choice("01") for _ in range(size))
+
+
 def packed(text):
     """A string of bits as bytes, the last filled up with zero bits."""
     text += "0" * (-len(text) % 8)
@@ -130,7 +135,44 @@ def channel_bits(rng, index):
     return text
 
 
+# ---- escapes and pulses at fault, which damage seldom hits
+
+LARGEST, TOO_LARGE = "1" * 8 + "0" + "1" * 12, "1" * 9
+# Of a sampling index, offsets of pulses from the first line of the last band: to the last line, and past it.
+LAST_OFFSETS = {3: [(31, 31, 31, 2), (31, 31, 31, 3), (31, 31, 31, 31)], 6: [(31, 31, 1), (31, 31, 2), (31, 31, 1, 0), (31, 31, 1, 1)]}
+
+
+def escape_band(escapes, pulses="0", signs="00"):
+    """A stream of a single band, whose four lines are escapes."""
+    pair = WORDS["book_11"][288] + signs
+    side = bits(100, 8) + "0000" + bits(1, 6) + "0" + bits(11, 4) + bits(1, 5) + WORDS["scale_factor"][60] + pulses + "00"
+    return side + pair + escapes[0] + escapes[1] + pair + escapes[2] + escapes[3]
+
+
+def pulses(start, sent):
+    """The pulse flag and pulse data: the start band, and of each pulse its offset and amplitude."""
+    return "1" + bits(len(sent) - 1, 2) + bits(start, 6) + "".join(bits(offset, 5) + bits(amplitude, 4) for offset, amplitude in sent)
+
+
+def faulty_streams(index):
+    """Streams in which each pulse is the first to pass 8191, on a line of its own and on the line of one before; start bands and offsets
+    up to the last that stand and past them; each escape the first that is too large."""
+    grid = 3 if index <= 4 else 6
+    near, last = "1" * 8 + "0" + bits(8191 - 20 - 4096, 12), len(LONG_BANDS[grid]) - 2
+    streams = [escape_band([LARGEST] * 4, pulses(0, [(min(j, 1), 15 * (j >= k)) for j in range(4)])) for k in range(5)]
+    streams += [escape_band([near] * 4, pulses(0, [(0, amplitude)] * 4), signs) for amplitude in (5, 6, 7, 15) for signs in ("00", "11")]
+    streams += [escape_band([LARGEST] * 4, pulses(start, [(0, 15)])) for start in (last, last + 1, 63)]
+    streams += [escape_band([LARGEST] * 4, pulses(last, [(offset, 15) for offset in offsets])) for offsets in LAST_OFFSETS[grid]]
+    return streams + [escape_band([LARGEST] * k + [TOO_LARGE] + [LARGEST] * (3 - k)) for k in range(4)]
+
+
 # ---- stereo payloads
+
+def announced(body):
+    """An extension: whole bytes of contents, and their size before them."""
+    size = len(body) // 8
+    return (bits(size, 4) if size < 15 else bits(15, 4) + bits(size - 15, 8)) + body
+
 
 class Stereo:
     """A run of valid stereo payloads: what a payload may hold goes by those before it."""
@@ -140,9 +182,11 @@ class Stereo:
         self.mode = {"iid": None, "icc": None}
         self.record = {}
 
-    def coded(self, rng, kind, mode):
+    def coded(self, rng, kind, mode, time=None):
+        """The bits of a kind in one envelope: across time or frequency, as it is told, or as it may be."""
         held = self.record.get(kind)
-        time = rng.random() < 0.5 and (held is None or held[0] == mode)
+        if time is None:
+            time = rng.random() < 0.5 and (held is None or held[0] == mode)
         phase = kind in ("ipd", "opd")
         bands = ([5, 11, 17] if phase else [10, 20, 34])[mode % 3]
         low, high, middle = {"iid": (-15, 15, 30) if mode >= 3 else (-7, 7, 14), "icc": (0, 7, 7)}.get(kind, (0, 7, 0))
@@ -172,9 +216,14 @@ class Stereo:
         if not phase:
             self.forget_phases()
         body += "0"
-        body += "".join(rng.choice("01") for _ in range(-len(body) % 8))
-        size = len(body) // 8
-        return (bits(size, 4) if size < 15 else bits(15, 4) + bits(size - 15, 8)) + body
+        return announced(body + any_bits(rng, -len(body) % 8))
+
+    def phases(self, rng, count, ipd=False, opd=False):
+        """What an extension holds of phases; the first envelope's are across time where it is told."""
+        text = "001"
+        for e in range(count):
+            text += self.coded(rng, "ipd", self.mode["iid"], ipd and e == 0) + self.coded(rng, "opd", self.mode["iid"], opd and e == 0)
+        return text + "0"
 
     def forget_phases(self):
         self.record.pop("ipd", None)
@@ -190,6 +239,12 @@ class Stereo:
                 text += bits(self.mode[kind], 3)
         self.on["ext"] = rng.random() < 0.6
         return text + bits(int(self.on["ext"]), 1)
+
+    def restart(self, rng, mode, count):
+        """A restart up to its extension: all is on, in one mode, and coded across frequency."""
+        self.on, self.mode = dict.fromkeys(self.on, True), dict.fromkeys(self.mode, mode)
+        text = "11" + bits(mode, 3) + "1" + bits(mode, 3) + "10" + bits((0, 1, 2, 4).index(count), 2)
+        return text + "".join(self.coded(rng, kind, mode, False) for kind in ("iid", "icc") for _ in range(count))
 
     def payload(self, rng):
         restart = rng.random() < 0.2

@@ -1,7 +1,7 @@
 """Tag images made by fixed seeds: valid, damaged, cut and odd ones, and bytes that are no image."""
 import random
 
-from generate import Stereo, channel, damaged
+from generate import Stereo, announced, any_bits, channel, damaged, faulty_streams, packed
 from images import KEEP_STEREO, SILENT_CHANNEL, image
 
 
@@ -52,6 +52,40 @@ def odd_images(rng):
     yield 3, []
 
 
+def faulty_channels(rng):
+    """Each pulse and each escape at fault in its turn; a stream with pulses and escapes, cut at each byte."""
+    for index in (3, 4, 6, 7):
+        streams = [packed(stream) for stream in faulty_streams(index)]
+        streams += [streams[0][:k] for k in range(len(streams[0]))]
+        yield index, [part for stream in streams for part in (stream, KEEP_STEREO)]
+
+
+def sized_extensions(rng):
+    """Phases in extensions of every size: none, too small at one of their fields after another, their own, and up to two bytes more."""
+    for mode in (0, 2, 4):
+        payloads = []
+        for count in (1, 2, 4):
+            run_of = Stereo()
+            front, body = run_of.restart(rng, mode, count), run_of.phases(rng, count)
+            for size in range((len(body) + 7) // 8 + 3):
+                held = (body + any_bits(rng, 24))[:8 * size]
+                payloads += [SILENT_CHANNEL, packed(front + announced(held))]
+        yield 4, payloads
+
+
+def phases_in_other_modes(rng):
+    """Phases in one mode, then in another, the first or the second kind of them across time."""
+    payloads = []
+    for mode in range(6):
+        for other in ((mode + 1) % 6, (mode + 3) % 6):
+            for ipd in (True, False):
+                run_of = Stereo()
+                for now, across in ((mode, (False, False)), (other, (ipd, not ipd))):
+                    front, body = run_of.restart(rng, now, 1), run_of.phases(rng, 1, *across)
+                    payloads += [SILENT_CHANNEL, packed(front + announced(body + any_bits(rng, -len(body) % 8)))]
+    yield 4, payloads
+
+
 def broken_headers(rng):
     good = image(4, [SILENT_CHANNEL, KEEP_STEREO])
     yield b""
@@ -66,6 +100,6 @@ def broken_headers(rng):
 def made_images():
     """Every image, each with the number of its payloads."""
     rng = random.Random(20261115)
-    makers = (valid_images, damaged_images, cut_images, odd_images)
+    makers = (valid_images, damaged_images, cut_images, odd_images, faulty_channels, sized_extensions, phases_in_other_modes)
     images = [(image(index, parts), len(parts)) for maker in makers for index, parts in maker(rng)]
     return images + [(data, 0) for data in broken_headers(rng)]

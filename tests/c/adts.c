@@ -4,12 +4,13 @@
 #include "calls.h"
 #include "cases.h"
 #include "oarcradler.h"
+#include "places.h"
 
 enum { HEADER_BYTES = 7, FIRST_BIT = 63 };
 
 /* What read_channel, or read_frame and unwrap_frame, left of a stream. */
 struct found {
-    uint32_t number;
+    uint32_t returned;
     int16_t lines[OARCRADLER_SIZE_LINES];
     struct oarcradler_factors factors;
     struct oarcradler_books books;
@@ -76,18 +77,19 @@ static void lend_outputs(size_t longer, size_t room, unsigned seed)
 /* The frame at a start of the lent file, read and cut: both say the same. */
 static uint32_t read_and_cut(size_t start)
 {
-    uint32_t number = call_read_frame(&frame, start);
-    expect_number(call_unwrap_frame(&unwrap, start), number, "unwrap_frame: not the number of read_frame");
-    if (number == 0)
-        expect(memcmp(bytes_of(&frame.answer), bytes_of(&unwrap.answer), OARCRADLER_SIZE_FRAME) == 0, "unwrap_frame: not the answer of read_frame");
-    return number;
+    uint32_t returned = call_read_frame(&frame, start);
+    expect_number(call_unwrap_frame(&unwrap, start), returned, "unwrap_frame: not the number and the place of read_frame");
+    if (returned == 0)
+        expect(memcmp(bytes_of(&frame.answer), bytes_of(&unwrap.answer), OARCRADLER_SIZE_FRAME) == 0,
+            "unwrap_frame: not the answer of read_frame");
+    return returned;
 }
 
 /* What is left of a frame that was read and cut. */
-static struct found found_frame(uint32_t number)
+static struct found found_frame(uint32_t returned)
 {
-    struct found found = { .number = number };
-    if (number != 0)
+    struct found found = { .returned = returned };
+    if (returned != 0)
         return found;
     memcpy(found.lines, bytes_of(&frame.lines), sizeof found.lines);
     memcpy(&found.factors, bytes_of(&frame.factors), sizeof found.factors);
@@ -115,9 +117,10 @@ static void test_rooms(const struct found *known, const size_t *rooms, size_t co
 {
     for (size_t k = 0; k < count; k++) {
         int enough = rooms[k] >= stream_size(known->answer);
+        uint32_t wanted = known->returned != 0 ? known->returned : enough ? 0 : 2;
         lend(&unwrap.out, rooms[k], 40);
-        expect_number(call_unwrap_frame(&unwrap, 0), known->number != 0 ? known->number : enough ? 0 : 2, "unwrap_frame: room for the stream");
-        if (known->number == 0 && enough)
+        expect_number(call_unwrap_frame(&unwrap, 0), wanted, "unwrap_frame: room for the stream");
+        if (wanted == 0)
             expect(memcmp(bytes_of(&unwrap.out), known->stream, stream_size(known->answer)) == 0, "unwrap_frame: the stream in just its room");
     }
 }
@@ -168,10 +171,10 @@ static void test_refusals(const struct found *known, size_t size)
 /* What read_channel says of a payload, and the bits that it used. */
 static struct found read_payload(const uint8_t *payload, size_t size, uint32_t index)
 {
-    struct found found = { .number = 0 };
-    found.number = oarcradler_read_channel(payload, size, 0, (uint32_t)size, index, found.lines, OARCRADLER_SIZE_LINES, &found.factors,
+    struct found found = { .returned = 0 };
+    found.returned = oarcradler_read_channel(payload, size, 0, (uint32_t)size, index, found.lines, OARCRADLER_SIZE_LINES, &found.factors,
         sizeof found.factors, &found.books, sizeof found.books, found.answer, OARCRADLER_SIZE_CHANNEL);
-    if (found.number == 0)
+    if (found.returned == 0)
         copy_bits(found.stream, 0, payload, 0, oarcradler_word(found.answer + OARCRADLER_AT_CHANNEL_BITS));
     return found;
 }
@@ -206,7 +209,7 @@ static void test_wrapping(const uint8_t *payload, size_t size, uint32_t index, c
 static void test_read_back(const struct found *known, uint32_t index, const uint8_t *ruled, size_t length)
 {
     struct found found = read_twice(ruled, length, 70);
-    expect_number(found.number, 0, "read_frame of a frame that wraps a stream");
+    expect_number(found.returned, 0, "read_frame of a frame that wraps a stream");
     expect(memcmp(found.lines, known->lines, sizeof found.lines) == 0, "read_frame: other lines than read_channel");
     expect(memcmp(&found.factors, &known->factors, sizeof found.factors) == 0, "read_frame: other scale factors than read_channel");
     expect(memcmp(&found.books, &known->books, sizeof found.books) == 0, "read_frame: other books than read_channel");
@@ -219,12 +222,25 @@ static void test_read_back(const struct found *known, uint32_t index, const uint
     test_rooms(&found, rooms, 2);
 }
 
-/* Ranges, answers and indices at fault, each before the next; no room is judged before them. */
-static void test_wrap_refusals(const uint8_t *payload, size_t size, uint32_t index, uint32_t number)
+/* The bits of a refused payload, in a frame: refused as they are alone, as much further on as the frame has bits before them. Where bits
+ * run out, or are left, it hangs on what follows. */
+static void test_refused_in_frame(const uint8_t *payload, size_t size, uint32_t index, uint32_t returned)
+{
+    static uint8_t ruled[OARCRADLER_MOST_FRAME];
+    uint32_t number = oarcradler_number(returned);
+    int inside = has_place(number) && number != OARCRADLER_REFUSED_NO_BITS && number != OARCRADLER_REFUSED_BITS_LEFT;
+    if (!inside || size > sizeof ruled - HEADER_BYTES - 2)
+        return;
+    struct found found = read_twice(ruled, ruled_frame(ruled, payload, 8 * size, index), 75);
+    expect_returned(found.returned, number, FIRST_BIT + oarcradler_place(returned), "read_frame of a frame that holds a refused stream");
+}
+
+/* Ranges, answers and indices at fault, each before the next; no room is judged before them, nor before the payload's own refusal. */
+static void test_wrap_refusals(const uint8_t *payload, size_t size, uint32_t index, uint32_t returned)
 {
     uint32_t end = (uint32_t)size;
     lend_payload(payload, size, 0, 0, 80);
-    expect_number(call_wrap_stream(&wrap, 0, end, index), number != 0 ? number : 2, "wrap_stream: no room");
+    expect_number(call_wrap_stream(&wrap, 0, end, index), returned != 0 ? returned : 2, "wrap_stream: no room");
     expect_number(call_wrap_stream(&wrap, 0, end, 259), 3, "wrap_stream: an unknown index");
     expect_number(call_wrap_stream(&wrap, 0, end + 1, index), 1, "wrap_stream: end past the buffer");
     expect_number(call_wrap_stream(&wrap, 1, 0, index), 1, "wrap_stream: start after end");
@@ -240,49 +256,54 @@ void test_wrapped_payload(const uint8_t *payload, size_t size, uint32_t index)
 {
     static uint8_t ruled[OARCRADLER_MOST_WRAPPED];
     struct found known = read_payload(payload, size, index);
-    if (known.number == 0) {
+    if (known.returned == 0) {
         size_t length = ruled_frame(ruled, known.stream, oarcradler_word(known.answer + OARCRADLER_AT_CHANNEL_BITS), index);
         test_wrapping(payload, size, index, ruled, length);
         test_read_back(&known, index, ruled, length);
     }
-    test_wrap_refusals(payload, size, index, known.number);
+    test_refused_in_frame(payload, size, index, known.returned);
+    test_wrap_refusals(payload, size, index, known.returned);
 }
 
 /* A silent stream in a frame, at sampling index 6; and in one with other free bits, tag and gain. */
 static const uint8_t silent[] = { 0xff, 0xf1, 0x58, 0x40, 0x01, 0x7f, 0xfc, 0x00, 0xc8, 0x00, 0x07 };
 static const uint8_t free_silent[] = { 0xff, 0xf9, 0x5a, 0x7c, 0x01, 0x60, 0x00, 0x1f, 0xfe, 0x00, 0x07 };
 
-/* Frames with a byte altered, and their numbers. */
+/* The silent frame with a byte altered, and its number; the place, in bits, of those refused after the header. */
+static const struct {
+    size_t byte;
+    uint8_t value;
+    uint32_t number, place;
+} altered[] = { { 0, 0xfe, 50, 0 }, { 0, 0x7f, 50, 0 }, { 1, 0xe1, 50, 0 }, { 1, 0x71, 50, 0 }, { 1, 0xf9, 0, 0 }, { 1, 0xf3, 51, 0 },
+    { 1, 0xf5, 51, 0 }, { 1, 0xf7, 51, 0 }, { 1, 0xf0, 51, 0 }, { 2, 0x18, 51, 0 }, { 2, 0x98, 51, 0 }, { 2, 0xd8, 51, 0 },
+    { 2, 0x40, 51, 0 }, { 2, 0x44, 51, 0 }, { 2, 0x48, 51, 0 }, { 2, 0x4c, 0, 0 }, { 2, 0x50, 0, 0 }, { 2, 0x54, 51, 0 },
+    { 2, 0x5c, 0, 0 }, { 2, 0x60, 51, 0 }, { 2, 0x7c, 51, 0 }, { 2, 0x5a, 0, 0 }, { 2, 0x59, 51, 0 }, { 3, 0x00, 51, 0 },
+    { 3, 0x80, 51, 0 }, { 3, 0xc0, 51, 0 }, { 3, 0x7c, 0, 0 }, { 3, 0x41, 52, 0 }, { 3, 0x42, 52, 0 }, { 4, 0x00, 52, 0 },
+    { 4, 0x02, 52, 0 }, { 5, 0x9f, 52, 0 }, { 5, 0xff, 52, 0 }, { 5, 0x5f, 10, 75 }, { 5, 0x3f, 10, 72 }, { 5, 0x60, 0, 0 },
+    { 6, 0x00, 0, 0 }, { 6, 0xfd, 51, 0 }, { 6, 0xfe, 51, 0 }, { 6, 0xff, 51, 0 }, { 7, 0x1e, 0, 0 }, { 7, 0x20, 53, 56 },
+    { 7, 0x60, 53, 56 }, { 7, 0xc0, 53, 56 }, { 7, 0xe0, 53, 56 }, { 8, 0xc9, 13, 71 }, { 9, 0xc0, 0, 0 }, { 10, 0x00, 53, 85 },
+    { 10, 0x06, 53, 85 }, { 10, 0x03, 53, 85 }, { 10, 0x47, 20, 81 }, { 10, 0x17, 20, 83 }, { 10, 0x0f, 20, 84 }, { 10, 0x27, 10, 85 } };
+
 static void test_altered(void)
 {
-    static const struct {
-        size_t place;
-        uint8_t value;
-        uint32_t number;
-    } altered[] = { { 0, 0xfe, 50 }, { 0, 0x7f, 50 }, { 1, 0xe1, 50 }, { 1, 0x71, 50 }, { 1, 0xf9, 0 }, { 1, 0xf3, 51 }, { 1, 0xf5, 51 },
-        { 1, 0xf7, 51 }, { 1, 0xf0, 51 }, { 2, 0x18, 51 }, { 2, 0x98, 51 }, { 2, 0xd8, 51 }, { 2, 0x40, 51 }, { 2, 0x44, 51 },
-        { 2, 0x48, 51 }, { 2, 0x4c, 0 }, { 2, 0x50, 0 }, { 2, 0x54, 51 }, { 2, 0x5c, 0 }, { 2, 0x60, 51 }, { 2, 0x7c, 51 }, { 2, 0x5a, 0 },
-        { 2, 0x59, 51 }, { 3, 0x00, 51 }, { 3, 0x80, 51 }, { 3, 0xc0, 51 }, { 3, 0x7c, 0 }, { 3, 0x41, 52 }, { 3, 0x42, 52 }, { 4, 0x00, 52 },
-        { 4, 0x02, 52 }, { 5, 0x9f, 52 }, { 5, 0xff, 52 }, { 5, 0x5f, 10 }, { 5, 0x3f, 10 }, { 5, 0x60, 0 }, { 6, 0x00, 0 }, { 6, 0xfd, 51 },
-        { 6, 0xfe, 51 }, { 6, 0xff, 51 }, { 7, 0x1e, 0 }, { 7, 0x20, 53 }, { 7, 0x60, 53 }, { 7, 0xc0, 53 }, { 7, 0xe0, 53 }, { 8, 0xc9, 13 },
-        { 9, 0xc0, 0 }, { 10, 0x00, 53 }, { 10, 0x06, 53 }, { 10, 0x03, 53 }, { 10, 0x47, 20 }, { 10, 0x17, 20 }, { 10, 0x0f, 20 },
-        { 10, 0x27, 10 } };
     uint8_t copy[sizeof silent];
     for (size_t k = 0; k < sizeof altered / sizeof *altered; k++) {
         memcpy(copy, silent, sizeof copy);
-        copy[altered[k].place] = altered[k].value;
+        copy[altered[k].byte] = altered[k].value;
         lend_file(copy, sizeof copy, 0, 0, 90);
         lend_outputs(0, OARCRADLER_MOST_STREAM, 90);
         struct found found = found_frame(read_and_cut(0));
-        expect_number(found.number, altered[k].number, "read_frame of a known frame with a byte altered");
+        expect_returned(found.returned, altered[k].number, altered[k].place, "read_frame of a known frame with a byte altered");
         test_refusals(&found, sizeof copy);
     }
 }
 
-/* Every length about the least and about the file's, and some that are far past it. */
+/* Every length about the least and about the file's, and some that are far past it. A frame of 7 to 10 bytes is refused at the element, the
+ * gain, the window sequence, max_sfb. */
 static void test_lengths(void)
 {
     static const size_t far[] = { 16, 18, 19, 255, 256, 2048, 2059, 4096, 8191 };
+    static const uint32_t cut_at[sizeof silent - HEADER_BYTES] = { 56, 63, 72, 75 };
     uint8_t copy[sizeof silent];
     for (size_t k = 0; k < 14 + sizeof far / sizeof *far; k++) {
         size_t length = k < 14 ? k : far[k - 14];
@@ -293,7 +314,8 @@ static void test_lengths(void)
         lend_file(copy, sizeof copy, 0, 0, 95);
         lend_outputs(0, OARCRADLER_MOST_STREAM, 95);
         uint32_t number = length < HEADER_BYTES || length > sizeof copy ? 52 : length < sizeof copy ? 10 : 0;
-        expect_number(read_and_cut(0), number, "read_frame, unwrap_frame: a frame length");
+        uint32_t place = number == 10 ? cut_at[length - HEADER_BYTES] : 0;
+        expect_returned(read_and_cut(0), number, place, "read_frame, unwrap_frame: a frame length");
     }
 }
 
@@ -307,7 +329,7 @@ static void test_longer(void)
         copy[sizeof silent] = (uint8_t)fill;
         lend_file(copy, sizeof copy, 0, 0, 100);
         lend_outputs(0, OARCRADLER_MOST_STREAM, 100);
-        expect_number(read_and_cut(0), 12, "read_frame, unwrap_frame: eight bits after the end element");
+        expect_returned(read_and_cut(0), 12, 8 * sizeof silent, "read_frame, unwrap_frame: eight bits after the end element");
     }
 }
 
@@ -324,7 +346,7 @@ static void test_cut_files(void)
         for (size_t start = 0; start < sizeof file; start += sizeof silent) {
             size_t left = size - start;
             uint32_t number = start > size ? 1 : left < HEADER_BYTES ? 10 : left < sizeof silent ? 52 : 0;
-            expect_number(read_and_cut(start), number, "read_frame, unwrap_frame of a file that is cut");
+            expect_returned(read_and_cut(start), number, 0, "read_frame, unwrap_frame of a file that is cut");
         }
     }
 }
@@ -343,7 +365,7 @@ static void test_starts(void)
         lend_outputs(0, OARCRADLER_MOST_STREAM, 121);
         struct found alone = found_frame(read_and_cut(0));
         expect(memcmp(&inside, &alone, sizeof inside) == 0, "read_frame, unwrap_frame: bytes before the start count");
-        expect((inside.number == 0) == (start == 0 || start == sizeof silent), "read_frame, unwrap_frame: a start that is no frame's");
+        expect((inside.returned == 0) == (start == 0 || start == sizeof silent), "read_frame, unwrap_frame: a start that is no frame's");
     }
 }
 
@@ -351,7 +373,7 @@ static void test_starts(void)
 static void test_silent(const uint8_t *bytes, const uint8_t *answer, const uint8_t *stream)
 {
     struct found found = read_twice(bytes, sizeof silent, 130);
-    expect_number(found.number, 0, "read_frame of silence");
+    expect_number(found.returned, 0, "read_frame of silence");
     expect(memcmp(found.answer, answer, sizeof found.answer) == 0, "read_frame: the answer of silence");
     expect(memcmp(found.stream, stream, 3) == 0, "unwrap_frame: the stream of silence");
     for (size_t room = 0; room <= 5; room++)

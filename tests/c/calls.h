@@ -1,5 +1,6 @@
-/* Each function called over lent buffers. After every call it is checked that nothing but what the promise lets change has changed: not the bytes
- * around a buffer, not those past the layout, not what a refusal leaves alone. */
+/* Each function called over lent buffers. After every call it is checked that one of the function's numbers came back, with a place where
+ * it may have one; and that nothing but what the promise lets change has changed: not the bytes around a buffer, not those past the layout,
+ * not what a refusal leaves alone. What was returned is handed on, number and place. */
 #ifndef CALLS_H
 #define CALLS_H
 

@@ -4,10 +4,11 @@
 #include "calls.h"
 #include "cases.h"
 #include "oarcradler.h"
+#include "places.h"
 
 /* What a call of read_channel left. */
 struct reading {
-    uint32_t number;
+    uint32_t returned;
     int16_t lines[OARCRADLER_SIZE_LINES];
     uint8_t factors[OARCRADLER_SIZE_FACTORS], books[OARCRADLER_SIZE_BOOKS], answer[OARCRADLER_SIZE_CHANNEL];
 };
@@ -30,7 +31,7 @@ static struct reading read_in(const uint8_t *payload, size_t size, uint32_t inde
 {
     struct reading r;
     lend_read(payload, size, around, longer, seed);
-    r.number = call_read_channel(&read, (uint32_t)around, (uint32_t)(around + size), index);
+    r.returned = call_read_channel(&read, (uint32_t)around, (uint32_t)(around + size), index);
     memcpy(r.lines, bytes_of(&read.lines), sizeof r.lines);
     memcpy(r.factors, bytes_of(&read.factors), sizeof r.factors);
     memcpy(r.books, bytes_of(&read.books), sizeof r.books);
@@ -42,8 +43,8 @@ static struct reading read_in(const uint8_t *payload, size_t size, uint32_t inde
 static struct reading read_twice(const uint8_t *payload, size_t size, uint32_t index)
 {
     struct reading one = read_in(payload, size, index, 5, 0, 1), two = read_in(payload, size, index, 0, 9, 2);
-    expect_number(two.number, one.number, "read_channel: the number depends on bytes outside the stream");
-    if (one.number == 0) {
+    expect_number(two.returned, one.returned, "read_channel: number or place depend on bytes outside the stream");
+    if (one.returned == 0) {
         expect(memcmp(one.lines, two.lines, sizeof one.lines) == 0, "read_channel: a line was not written");
         expect(memcmp(one.factors, two.factors, sizeof one.factors) == 0, "read_channel: a scale factor was not written");
         expect(memcmp(one.books, two.books, sizeof one.books) == 0, "read_channel: a book was not written");
@@ -64,6 +65,21 @@ static void test_unused(const struct reading *r)
         expect((r->answer[OARCRADLER_AT_CHANNEL_GROUPS + k] != 0) == (k < groups), "read_channel: windows of a group that is not there");
     }
     expect_number(windows, r->answer[OARCRADLER_AT_CHANNEL_SEQUENCE] == 2 ? 8 : 1, "read_channel: windows in all");
+}
+
+/* Where a stream is refused: without the bytes after its first unused bit, it is accepted; without those from the field at fault on, bits
+ * run out there. */
+static void test_place(const uint8_t *payload, uint32_t returned, uint32_t index)
+{
+    uint32_t number = oarcradler_number(returned), place = oarcradler_place(returned);
+    if (number == OARCRADLER_REFUSED_BITS_LEFT) {
+        struct reading cut = read_in(payload, (place + 7) / 8, index, 0, 0, 10);
+        expect_number(cut.returned, 0, "read_channel of a stream without its unused bytes");
+        expect_number(oarcradler_word(cut.answer + OARCRADLER_AT_CHANNEL_BITS), place, "read_channel: not the first bit unused");
+    } else if (has_place(number) && place % 8 == 0) {
+        uint32_t cut = read_in(payload, place / 8, index, 0, 0, 11).returned;
+        expect_returned(cut, 10, place, "read_channel of a stream that is cut where it is refused");
+    }
 }
 
 /* Ranges outside the buffer. */
@@ -112,27 +128,38 @@ static void test_short_outputs(const uint8_t *payload, size_t size, uint32_t ind
 void test_channel_payload(const uint8_t *payload, size_t size, uint32_t index)
 {
     struct reading r = read_twice(payload, size, index);
-    if (r.number == 0)
+    if (r.returned == 0)
         test_unused(&r);
+    test_place(payload, r.returned, index);
     test_bad_ranges(payload, size, index);
     test_bad_indices(payload, size);
     test_short_outputs(payload, size, index);
 }
 
-/* Streams whose numbers the rules give. */
+/* Streams whose numbers and places the rules give. The last are a line of 8191 to which a pulse adds, the second of two or the only one,
+ * and an escape that is too long, or cut. */
+static const struct {
+    uint32_t index;
+    uint8_t bytes[12];
+    size_t size;
+    uint32_t number, place;
+} bench[] = { { 3, { 255, 0, 66, 26 }, 4, 24, 28 }, { 3, { 0, 0, 66, 24 }, 4, 24, 28 }, { 3, { 100, 0, 66, 31 }, 4, 10, 28 },
+    { 6, { 0 }, 0, 10, 0 }, { 6, { 100 }, 1, 10, 8 }, { 4, { 100, 0, 0, 0 }, 4, 12, 22 }, { 7, { 100, 128, 0 }, 3, 13, 8 },
+    { 3, { 100, 12, 128 }, 3, 21, 12 }, { 6, { 100, 12, 0 }, 3, 21, 12 }, { 3, { 100, 0, 32 }, 3, 20, 18 }, { 4, { 100, 0, 8 }, 3, 20, 20 },
+    { 4, { 100, 0, 4 }, 3, 20, 21 }, { 3, { 100, 0, 88 }, 3, 23, 19 }, { 3, { 100, 0, 66, 0 }, 4, 22, 23 },
+    { 3, { 100, 7, 195, 240, 128 }, 5, 22, 28 }, { 7, { 100, 64, 1 }, 3, 25, 23 }, { 3, { 100, 0, 19, 16 }, 4, 25, 22 },
+    { 3, { 100, 0, 31, 15, 135, 195, 225, 240 }, 8, 25, 55 }, { 6, { 100, 0, 26, 239, 135, 195, 224 }, 7, 25, 46 },
+    { 3, { 100, 0, 86, 21, 0, 0, 1, 56, 79, 247, 255, 128 }, 12, 26, 47 },
+    { 3, { 100, 0, 86, 20, 0, 2, 112, 159, 239, 255, 0 }, 11, 26, 38 }, { 3, { 100, 0, 86, 16, 225, 63, 224 }, 7, 26, 42 },
+    { 3, { 100, 0, 86, 16, 225, 63 }, 6, 10, 42 } };
+
 static void test_bench(void)
 {
-    static const struct {
-        uint32_t index;
-        uint8_t bytes[4];
-        size_t size;
-        uint32_t number;
-    } bench[] = { { 3, { 255, 0, 66, 26 }, 4, 24 }, { 3, { 0, 0, 66, 24 }, 4, 24 }, { 6, { 0 }, 0, 10 }, { 4, { 100, 0, 0, 0 }, 4, 12 },
-        { 7, { 100, 128, 0 }, 3, 13 }, { 3, { 100, 12, 128 }, 3, 21 }, { 6, { 100, 12, 0 }, 3, 21 }, { 3, { 100, 0, 32 }, 3, 20 } };
     for (size_t k = 0; k < sizeof bench / sizeof *bench; k++) {
         struct reading r = read_twice(bench[k].bytes, bench[k].size, bench[k].index);
-        expect_number(r.number, bench[k].number, "read_channel of a bench example");
+        expect_returned(r.returned, bench[k].number, bench[k].place, "read_channel of a bench example");
         test_channel_payload(bench[k].bytes, bench[k].size, bench[k].index);
+        test_wrapped_payload(bench[k].bytes, bench[k].size, bench[k].index);
     }
 }
 
@@ -143,7 +170,7 @@ static void test_silence(void)
     static const uint8_t payload[] = { 100, 0, 0 }, wanted[OARCRADLER_SIZE_CHANNEL] = { 0, 0, 0, 22, 100, 0, 0, 0, 1, 1 };
     for (size_t k = 0; k < sizeof known / sizeof *known; k++) {
         struct reading r = read_twice(payload, sizeof payload, known[k]);
-        expect_number(r.number, 0, "read_channel of silence");
+        expect_number(r.returned, 0, "read_channel of silence");
         expect(memcmp(r.answer, wanted, sizeof wanted) == 0, "read_channel: the answer of silence");
         for (size_t line = 0; line < OARCRADLER_SIZE_LINES; line++)
             expect(r.lines[line] == 0, "read_channel: a line of silence");

@@ -30,12 +30,14 @@ static void dump_channel(uint32_t k, uint32_t start, uint32_t end)
     static struct oarcradler_factors factors;
     static struct oarcradler_books books;
     static uint8_t answer[OARCRADLER_SIZE_CHANNEL];
-    uint32_t number = oarcradler_read_channel(image.bytes, image.size, start, end, image.index, lines, OARCRADLER_SIZE_LINES, &factors,
+    uint32_t returned = oarcradler_read_channel(image.bytes, image.size, start, end, image.index, lines, OARCRADLER_SIZE_LINES, &factors,
         sizeof factors, &books, sizeof books, answer, sizeof answer);
-    if (number != 0)
-        printf("%u channel refused %u\n", (unsigned)k, (unsigned)number);
-    else
+    if (returned != 0) {
+        printf("%u channel ", (unsigned)k);
+        print_refused(returned);
+    } else {
         print_channel(k, lines, &factors, &books, answer);
+    }
 }
 
 /* A mode, or a dash where there is none. */
@@ -118,9 +120,10 @@ static void print_state(const uint8_t *state)
 static void dump_stereo(uint32_t k, uint32_t start, uint32_t end, uint8_t *state)
 {
     static uint8_t answer[OARCRADLER_SIZE_STEREO];
-    uint32_t number = oarcradler_read_stereo(state, OARCRADLER_SIZE_STATE, image.bytes, image.size, start, end, answer, sizeof answer);
-    if (number != 0) {
-        printf("%u stereo refused %u\n", (unsigned)k, (unsigned)number);
+    uint32_t returned = oarcradler_read_stereo(state, OARCRADLER_SIZE_STATE, image.bytes, image.size, start, end, answer, sizeof answer);
+    if (returned != 0) {
+        printf("%u stereo ", (unsigned)k);
+        print_refused(returned);
     } else {
         unsigned count = answer[OARCRADLER_AT_STEREO_ENVELOPES], class = answer[OARCRADLER_AT_STEREO_CLASS];
         printf("%u stereo envelopes %u bits %u\n", (unsigned)k, count, (unsigned)oarcradler_word(answer));

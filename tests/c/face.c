@@ -6,6 +6,8 @@
 /* Each function as the header has to declare it, which is so where this compiles. */
 struct face {
     uint32_t (*version)(void);
+    uint32_t (*number)(uint32_t);
+    uint32_t (*place)(uint32_t);
     uint32_t (*fresh)(uint8_t *, uint64_t);
     uint32_t (*missing)(uint8_t *, uint64_t);
     uint32_t (*header)(const uint8_t *, uint64_t, uint8_t *, uint64_t);
@@ -20,13 +22,27 @@ struct face {
     uint32_t (*wrap)(const uint8_t *, uint64_t, uint64_t, uint64_t, uint32_t, uint8_t *, uint64_t, uint8_t *, uint64_t);
 };
 
-static const struct face face = { oarcradler_version, oarcradler_fresh_state, oarcradler_report_missing, oarcradler_read_header,
-    oarcradler_find_part, oarcradler_write_stereo, oarcradler_read_stereo, oarcradler_read_channel, oarcradler_read_frame, oarcradler_unwrap_frame,
-    oarcradler_wrap_stream };
+static const struct face face = { oarcradler_version, oarcradler_number, oarcradler_place, oarcradler_fresh_state,
+    oarcradler_report_missing, oarcradler_read_header, oarcradler_find_part, oarcradler_write_stereo, oarcradler_read_stereo,
+    oarcradler_read_channel, oarcradler_read_frame, oarcradler_unwrap_frame, oarcradler_wrap_stream };
+
+/* Every number, and places up to the last, are taken out of what is returned as they were put there; a number with no place is returned as
+ * it is. */
+static void test_taken_out(void)
+{
+    static const uint32_t places[] = { 0, 1, 255, 256, OARCRADLER_MOST_PLACE };
+    for (uint32_t number = 0; number < 256; number++)
+        for (size_t k = 0; k < sizeof places / sizeof *places; k++) {
+            uint32_t returned = number + 256 * places[k];
+            expect(face.number(returned) == number && face.place(returned) == places[k], "a number or a place is not what was returned");
+        }
+    expect(OARCRADLER_MOST_PLACE == 8 * OARCRADLER_MOST_FRAME, "the last place is not the end of the longest frame");
+}
 
 void test_face(void)
 {
     expect(face.fresh != 0 && face.wrap != 0, "a function is not there");
+    test_taken_out();
     expect_number(face.version(), 10000 * OARCRADLER_VERSION_MAJOR + 100 * OARCRADLER_VERSION_MINOR + OARCRADLER_VERSION_PATCH,
         "the archive has another version than the header");
     expect(OARCRADLER_AT_STATE_IID + 4 * OARCRADLER_SIZE_RECORD == OARCRADLER_SIZE_STATE, "the state's parts are not its size");

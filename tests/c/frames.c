@@ -31,19 +31,22 @@ static void print_stream(size_t size, size_t start)
 {
     static uint8_t stream[OARCRADLER_MOST_STREAM], frame[OARCRADLER_MOST_WRAPPED];
     uint8_t answer[OARCRADLER_SIZE_FRAME], wrapped[OARCRADLER_SIZE_WRAPPED];
-    uint32_t number = oarcradler_unwrap_frame(file, size, start, stream, sizeof stream, answer, sizeof answer);
-    if (number != 0) {
-        printf("  stream refused %u\n", (unsigned)number);
+    uint32_t returned = oarcradler_unwrap_frame(file, size, start, stream, sizeof stream, answer, sizeof answer);
+    if (returned != 0) {
+        printf("  stream ");
+        print_refused(returned);
         return;
     }
     uint32_t bytes = (oarcradler_word(answer + OARCRADLER_AT_CHANNEL_BITS) + 7) / 8;
     print_hex("  stream", stream, bytes);
-    number = oarcradler_wrap_stream(stream, sizeof stream, 0, bytes, answer[OARCRADLER_AT_FRAME_INDEX], frame, sizeof frame, wrapped,
+    returned = oarcradler_wrap_stream(stream, sizeof stream, 0, bytes, answer[OARCRADLER_AT_FRAME_INDEX], frame, sizeof frame, wrapped,
         sizeof wrapped);
-    if (number != 0)
-        printf("  frame refused %u\n", (unsigned)number);
-    else
+    if (returned != 0) {
+        printf("  frame ");
+        print_refused(returned);
+    } else {
         print_hex("  frame", frame, oarcradler_word(wrapped + OARCRADLER_AT_WRAPPED_LENGTH));
+    }
 }
 
 /* The length field of a frame whose header was accepted: 13 bits from bit 30. */
@@ -59,16 +62,17 @@ static uint32_t print_frame(unsigned k, size_t size, size_t start)
     static struct oarcradler_factors factors;
     static struct oarcradler_books books;
     static uint8_t answer[OARCRADLER_SIZE_FRAME];
-    uint32_t number = oarcradler_read_frame(file, size, start, lines, OARCRADLER_SIZE_LINES, &factors, sizeof factors, &books, sizeof books,
-        answer, sizeof answer);
-    if (number == 0) {
+    uint32_t returned = oarcradler_read_frame(file, size, start, lines, OARCRADLER_SIZE_LINES, &factors, sizeof factors, &books,
+        sizeof books, answer, sizeof answer);
+    if (returned == 0) {
         print_line(k, start, lines, answer);
         print_rows(lines, &factors, &books, answer);
         print_stream(size, start);
         return oarcradler_word(answer + OARCRADLER_AT_FRAME_LENGTH);
     }
-    printf("%u frame at %lu refused %u\n", k, (unsigned long)start, (unsigned)number);
-    switch (number) {
+    printf("%u frame at %lu ", k, (unsigned long)start);
+    print_refused(returned);
+    switch (oarcradler_number(returned)) {
     case OARCRADLER_REFUSED_NO_BITS:
     case OARCRADLER_REFUSED_NO_SYNC:
     case OARCRADLER_REFUSED_OTHER_FRAME:

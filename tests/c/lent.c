@@ -3,6 +3,8 @@
 #include <stdio.h>
 #include <string.h>
 
+#include "oarcradler.h"
+
 enum { MOST_SAID = 20 };
 
 /* The digest is FNV-1a, of 64 bits. */
@@ -26,11 +28,11 @@ uint64_t take_digest(void)
     return taken;
 }
 
-void called(uint32_t number)
+void called(uint32_t returned)
 {
-    const uint8_t byte = (uint8_t)number;
+    const uint8_t bytes[] = { (uint8_t)(returned >> 24), (uint8_t)(returned >> 16), (uint8_t)(returned >> 8), (uint8_t)returned };
     calls++;
-    digest_bytes(&byte, 1);
+    digest_bytes(bytes, sizeof bytes);
 }
 
 uint8_t *bytes_of(struct lent *lent)
@@ -83,11 +85,27 @@ void expect(int good, const char *what)
         printf("image %lu payload %lu: %s\n", image_number, payload_number, what);
 }
 
+void expect_of(const char *function, int good, const char *what)
+{
+    if (!good && fault_count < MOST_SAID)
+        printf("%s: ", function);
+    expect(good, what);
+}
+
 void expect_number(uint32_t said, uint32_t wanted, const char *what)
 {
     if (said != wanted && fault_count < MOST_SAID)
         printf("%u wanted, %u said: ", (unsigned)wanted, (unsigned)said);
     expect(said == wanted, what);
+}
+
+void expect_returned(uint32_t returned, uint32_t number, uint32_t place, const char *what)
+{
+    int good = oarcradler_number(returned) == number && oarcradler_place(returned) == place;
+    if (!good && fault_count < MOST_SAID)
+        printf("%u at %u wanted, %u at %u said: ", (unsigned)number, (unsigned)place, (unsigned)oarcradler_number(returned),
+            (unsigned)oarcradler_place(returned));
+    expect(good, what);
 }
 
 unsigned long faults(void)

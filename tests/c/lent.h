@@ -32,10 +32,10 @@ uint8_t *lend_bytes(struct lent *lent, size_t size, unsigned seed, const uint8_t
 /* What the buffer and its surroundings hold is remembered: done before a call. */
 void remember(struct lent *lent);
 
-/* A call was made and gave a number: it is counted. */
-void called(uint32_t number);
+/* A call was made and returned this, a number and a place: it is counted, and goes into the digest. */
+void called(uint32_t returned);
 
-/* Some bytes go into the digest: one number for all that the calls gave, the numbers that came back and the bytes that were written. */
+/* Some bytes go into the digest: one number for all that the calls gave, what they returned and the bytes that were written. */
 void digest_bytes(const uint8_t *bytes, size_t count);
 
 /* The digest, which begins anew. */
@@ -50,8 +50,14 @@ int same(struct lent *lent);
 /* A fault is counted and said unless the check is good. */
 void expect(int good, const char *what);
 
+/* The same of a function, which is named. */
+void expect_of(const char *function, int good, const char *what);
+
 /* The same of two numbers. */
 void expect_number(uint32_t said, uint32_t wanted, const char *what);
+
+/* The same of what a call returned, which has to be a number and a place. */
+void expect_returned(uint32_t returned, uint32_t number, uint32_t place, const char *what);
 
 /* How many faults there were. */
 unsigned long faults(void);

@@ -9,7 +9,7 @@ static struct oarcradler_factors factors;
 static struct oarcradler_books books;
 static const uint8_t silence[] = { 100, 0, 0 };
 
-/* A number that a call with a null pointer gave. */
+/* What a call with a null pointer returned: a number, whose place is 0. */
 static void expect_null(uint32_t said, uint32_t wanted, const char *what)
 {
     called(said);

@@ -1,15 +1,26 @@
 /* What the programs of this test print alike, and the image that they read alike. */
 #include <stdio.h>
 
+#include "places.h"
 #include "printed.h"
+
+void print_refused(uint32_t returned)
+{
+    uint32_t number = oarcradler_number(returned);
+    printf("refused %u", (unsigned)number);
+    if (has_place(number))
+        printf(" at %u", (unsigned)oarcradler_place(returned));
+    printf("\n");
+}
 
 int read_image(struct image *image)
 {
     uint8_t header[OARCRADLER_SIZE_HEADER];
     image->size = fread(image->bytes, 1, sizeof image->bytes, stdin);
-    uint32_t number = oarcradler_read_header(image->bytes, image->size, header, sizeof header);
-    if (number != 0) {
-        printf("image refused %u\n", (unsigned)number);
+    uint32_t returned = oarcradler_read_header(image->bytes, image->size, header, sizeof header);
+    if (returned != 0) {
+        printf("image ");
+        print_refused(returned);
         return 0;
     }
     image->count = oarcradler_word(header + OARCRADLER_AT_HEADER_COUNT);

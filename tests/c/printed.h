@@ -14,6 +14,9 @@ struct image {
 /* The tag image on standard input. Whether its header is sound; a refusal is printed. */
 int read_image(struct image *image);
 
+/* The end of a line that tells a refusal: its number, and its place where it has one. */
+void print_refused(uint32_t returned);
+
 /* Words, and numbers of a byte after them. */
 void print_bytes(const char *words, const uint8_t *bytes, size_t count);
 

@@ -22,7 +22,7 @@ static uint8_t *frame;
 static size_t deepest[ENTRIES];
 static unsigned long called[ENTRIES], measured;
 
-/* The buffers of the call that is measured, and what it gave. */
+/* The buffers of the call that is measured, and what it returned. */
 static uint8_t image[70000], state[OARCRADLER_SIZE_STATE], answer[OARCRADLER_SIZE_STEREO], out[OARCRADLER_MOST_WRITTEN], words[OARCRADLER_SIZE_HEADER];
 static struct oarcradler_factors factors;
 static struct oarcradler_books books;
@@ -31,7 +31,7 @@ static int16_t lines[OARCRADLER_SIZE_LINES];
 static const uint8_t *file;
 static size_t size, file_size, first;
 static uint64_t start, end;
-static uint32_t index, number;
+static uint32_t index, returned;
 static int entry;
 
 /* The call, made over the painted stack. */
@@ -39,25 +39,25 @@ static __attribute__((noinline)) void call_entry(void)
 {
     frame = __builtin_frame_address(0);
     switch (entry) {
-    case 0: number = oarcradler_fresh_state(state, sizeof state); break;
-    case 1: number = oarcradler_report_missing(state, sizeof state); break;
-    case 2: number = oarcradler_read_stereo(state, sizeof state, image, size, start, end, answer, sizeof answer); break;
-    case 3: number = oarcradler_write_stereo(state, sizeof state, answer, sizeof answer, out, sizeof out, words, sizeof words); break;
+    case 0: returned = oarcradler_fresh_state(state, sizeof state); break;
+    case 1: returned = oarcradler_report_missing(state, sizeof state); break;
+    case 2: returned = oarcradler_read_stereo(state, sizeof state, image, size, start, end, answer, sizeof answer); break;
+    case 3: returned = oarcradler_write_stereo(state, sizeof state, answer, sizeof answer, out, sizeof out, words, sizeof words); break;
     case 4:
-        number = oarcradler_read_channel(image, size, start, end, index, lines, OARCRADLER_SIZE_LINES, &factors, sizeof factors, &books,
+        returned = oarcradler_read_channel(image, size, start, end, index, lines, OARCRADLER_SIZE_LINES, &factors, sizeof factors, &books,
             sizeof books, answer, sizeof answer);
         break;
-    case 5: number = oarcradler_read_header(image, size, words, sizeof words); break;
-    case 6: number = oarcradler_find_part(image, size, (uint32_t)start, words, sizeof words); break;
+    case 5: returned = oarcradler_read_header(image, size, words, sizeof words); break;
+    case 6: returned = oarcradler_find_part(image, size, (uint32_t)start, words, sizeof words); break;
     case 7:
-        number = oarcradler_read_frame(file, file_size, first, lines, OARCRADLER_SIZE_LINES, &factors, sizeof factors, &books, sizeof books,
-            answer, sizeof answer);
+        returned = oarcradler_read_frame(file, file_size, first, lines, OARCRADLER_SIZE_LINES, &factors, sizeof factors, &books,
+            sizeof books, answer, sizeof answer);
         break;
-    case 8: number = oarcradler_unwrap_frame(file, file_size, first, stream, sizeof stream, answer, sizeof answer); break;
+    case 8: returned = oarcradler_unwrap_frame(file, file_size, first, stream, sizeof stream, answer, sizeof answer); break;
     case 9:
-        number = oarcradler_wrap_stream(image, size, start, end, index, adts_frame, sizeof adts_frame, length, sizeof length);
+        returned = oarcradler_wrap_stream(image, size, start, end, index, adts_frame, sizeof adts_frame, length, sizeof length);
         break;
-    default: number = oarcradler_version();
+    default: returned = oarcradler_version();
     }
 }
 
@@ -98,7 +98,7 @@ static __attribute__((noinline)) uint32_t measure(int which)
         deepest[which] = depth;
     called[which]++;
     measured++;
-    return number;
+    return returned;
 }
 
 /* A stereo payload; what was read, and the same altered, written from the state before; the payload read out of step. The state moves on. */

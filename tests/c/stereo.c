@@ -4,12 +4,13 @@
 #include "calls.h"
 #include "cases.h"
 #include "oarcradler.h"
+#include "places.h"
 
 enum { ALTERED = 4, MOST_WRITTEN = 1200, FIRST_CHANCE = 20261115 };
 
 /* What a call of read_stereo left. */
 struct reading {
-    uint32_t number;
+    uint32_t returned;
     uint8_t state[OARCRADLER_SIZE_STATE], answer[OARCRADLER_SIZE_STEREO];
 };
 
@@ -31,7 +32,7 @@ static struct reading read_in(const uint8_t *state, const uint8_t *payload, size
 {
     struct reading r;
     lend_read(state, payload, size, around, longer, seed);
-    r.number = call_read_stereo(&read, (uint32_t)around, (uint32_t)(around + size));
+    r.returned = call_read_stereo(&read, (uint32_t)around, (uint32_t)(around + size));
     memcpy(r.state, bytes_of(&read.state), sizeof r.state);
     memcpy(r.answer, bytes_of(&read.answer), sizeof r.answer);
     return r;
@@ -41,10 +42,31 @@ static struct reading read_in(const uint8_t *state, const uint8_t *payload, size
 static struct reading read_twice(const uint8_t *state, const uint8_t *payload, size_t size)
 {
     struct reading one = read_in(state, payload, size, 5, 0, 1), two = read_in(state, payload, size, 0, 9, 2);
-    expect_number(two.number, one.number, "read_stereo: the number depends on bytes outside the payload");
+    expect_number(two.returned, one.returned, "read_stereo: number or place depend on bytes outside the payload");
     expect(memcmp(one.state, two.state, sizeof one.state) == 0, "read_stereo: the state depends on bytes outside the payload");
-    expect(one.number != 0 || memcmp(one.answer, two.answer, sizeof one.answer) == 0, "read_stereo: a byte of the answer was not written");
+    if (one.returned == 0)
+        expect(memcmp(one.answer, two.answer, sizeof one.answer) == 0, "read_stereo: a byte of the answer was not written");
     return one;
+}
+
+/* Where a payload is refused: without the bytes after its first unused bit, it is accepted in step; without those from the field at fault
+ * on, bits run out there or, in an announced part, before. 33 may stand at the end of a part that is whole. */
+static void test_place(const uint8_t *state, const uint8_t *payload, uint32_t returned)
+{
+    uint8_t in_step[OARCRADLER_SIZE_STATE];
+    uint32_t number = oarcradler_number(returned), place = oarcradler_place(returned);
+    expect_number(oarcradler_fresh_state(in_step, sizeof in_step), 0, "fresh_state");
+    if (state[OARCRADLER_AT_STATE_IN_STEP])
+        memcpy(in_step, state, sizeof in_step);
+    if (number == OARCRADLER_REFUSED_BITS_LEFT || number == OARCRADLER_REFUSED_OUT_OF_STEP) {
+        struct reading cut = read_in(in_step, payload, (place + 7) / 8, 0, 0, 16);
+        expect_number(cut.returned, 0, "read_stereo of a payload without its unused bytes");
+        expect_number(oarcradler_word(cut.answer + OARCRADLER_AT_STEREO_BITS), place, "read_stereo: not the first bit unused");
+    } else if (has_place(number) && number != OARCRADLER_REFUSED_EXTENSION) {
+        uint32_t cut = read_in(in_step, payload, place / 8, 0, 0, 17).returned;
+        expect_number(oarcradler_number(cut), 10, "read_stereo of a payload that is cut where it is refused");
+        expect(oarcradler_place(cut) <= place, "read_stereo: bits run out after the place of a refusal");
+    }
 }
 
 /* Ranges outside the buffer, a short answer and a short state, one and then several at once. */
@@ -116,15 +138,16 @@ static void test_out_of_step(const uint8_t *state, const uint8_t *payload, size_
     memcpy(lost, state, sizeof lost);
     lost[OARCRADLER_AT_STATE_IN_STEP] = 0;
     struct reading again = read_in(lost, payload, size, 0, 0, 12);
-    if (again.number == 0) {
+    if (again.returned == 0) {
         expect(memcmp(again.answer, r->answer, sizeof again.answer) == 0, "read_stereo: a restart is read otherwise out of step");
         expect(memcmp(again.state, r->state, sizeof again.state) == 0, "read_stereo: a restart leaves another state out of step");
         test_written_back(lost, payload, &again, 0);
         return;
     }
+    test_place(lost, payload, again.returned);
     lend_write(lost, r->answer, MOST_WRITTEN, 0, 13);
-    uint32_t number = call_write_stereo(&write);
-    expect(number == 35 || number == 40, "write_stereo: out of step, what is no restart was written");
+    uint32_t returned = call_write_stereo(&write);
+    expect(returned == 35 || returned == 40, "write_stereo: out of step, what is no restart was written");
 }
 
 /* Numbers that look random, the same for an image on every run. */
@@ -144,14 +167,14 @@ static void test_altered_contents(const uint8_t *state, const struct reading *r)
     memcpy(contents, r->answer, sizeof contents);
     contents[place] = (uint8_t)(some(3) ? contents[place] + 1 - 2 * some(2) : some(256));
     lend_write(state, contents, sizeof out, 0, 14);
-    uint32_t number = call_write_stereo(&write);
-    expect(number == 0 || number == 40 || number == 35, "write_stereo: altered contents");
-    if (number != 0)
+    uint32_t returned = call_write_stereo(&write);
+    expect(returned == 0 || returned == 40 || returned == 35, "write_stereo: altered contents");
+    if (returned != 0)
         return;
     memcpy(out, bytes_of(&write.out), sizeof out);
     uint32_t bits = oarcradler_word(bytes_of(&write.answer) + OARCRADLER_AT_WRITTEN_BITS);
     struct reading back = read_in(state, out, (bits + 7) / 8, 0, 0, 15);
-    expect_number(back.number, 0, "read_stereo of altered contents that were written");
+    expect_number(back.returned, 0, "read_stereo of altered contents that were written");
     expect_number(oarcradler_word(back.answer), bits, "read_stereo: the bits of altered contents that were written");
     expect(memcmp(back.answer + 4, contents + 4, sizeof contents - 4) == 0, "altered contents were written to a payload of others");
     expect(memcmp(back.state, bytes_of(&write.state), sizeof back.state) == 0, "write_stereo and read_stereo leave different states");
@@ -165,8 +188,9 @@ void begin_altering(size_t size)
 void test_stereo_payload(uint8_t *state, const uint8_t *payload, size_t size)
 {
     struct reading r = read_twice(state, payload, size);
+    test_place(state, payload, r.returned);
     test_refused_reads(state, payload, size);
-    if (r.number == 0) {
+    if (r.returned == 0) {
         test_written_back(state, payload, &r, 0);
         test_written_back(state, payload, &r, 11);
         written_back++;
@@ -178,24 +202,39 @@ void test_stereo_payload(uint8_t *state, const uint8_t *payload, size_t size)
     memcpy(state, r.state, sizeof r.state);
 }
 
-/* Payloads whose numbers the rules give. */
+/* Payloads whose numbers and places the rules give, from a fresh state, in step or out of it. The last five are refused in an extension,
+ * which starts at bit 11 or, after IID, at bit 25. */
+static const struct {
+    uint8_t in_step, bytes[5];
+    size_t size;
+    uint32_t number, place, bits;
+} bench[] = { { 1, { 0 }, 1, 0, 0, 4 }, { 1, { 0x90, 0 }, 2, 0, 0, 11 }, { 1, { 0, 0 }, 2, 12, 4, 0 }, { 0, { 0 }, 1, 35, 4, 0 },
+    { 1, { 0 }, 0, 10, 0, 0 }, { 1, { 0xf0 }, 1, 13, 2, 0 }, { 1, { 0xc0, 0x5f, 0xfc }, 3, 32, 11, 0 },
+    { 1, { 0xc0, 0x5f, 0xfa, 0 }, 4, 32, 22, 0 }, { 1, { 0xc0, 0x5f }, 2, 10, 11, 0 }, { 1, { 0x90, 0x20 }, 2, 10, 11, 0 },
+    { 1, { 0x90, 0x24, 0 }, 3, 34, 13, 0 }, { 1, { 0x90, 0x22, 0 }, 3, 13, 14, 0 }, { 1, { 0x90, 0x40, 0, 0 }, 4, 33, 15, 0 },
+    { 1, { 0xc2, 0x40, 0, 0x97, 0x80 }, 5, 33, 33, 0 } };
+
 static void test_bench(void)
 {
-    static const struct {
-        uint8_t in_step, bytes[2];
-        size_t size;
-        uint32_t number, bits;
-    } bench[] = { { 1, { 0, 0 }, 1, 0, 4 }, { 1, { 0, 0 }, 2, 12, 0 }, { 0, { 0, 0 }, 1, 35, 0 }, { 1, { 0, 0 }, 0, 10, 0 },
-        { 1, { 0xf0, 0 }, 1, 13, 0 }, { 1, { 0x90, 0 }, 2, 0, 11 } };
     for (size_t k = 0; k < sizeof bench / sizeof *bench; k++) {
         uint8_t state[OARCRADLER_SIZE_STATE];
         expect_number(oarcradler_fresh_state(state, sizeof state), 0, "fresh_state");
         state[OARCRADLER_AT_STATE_IN_STEP] = bench[k].in_step;
         struct reading r = read_twice(state, bench[k].bytes, bench[k].size);
-        expect_number(r.number, bench[k].number, "read_stereo of a bench example");
-        expect(r.number != 0 || oarcradler_word(r.answer) == bench[k].bits, "read_stereo: the bits of a bench example");
+        expect_returned(r.returned, bench[k].number, bench[k].place, "read_stereo of a bench example");
+        expect(r.returned != 0 || oarcradler_word(r.answer) == bench[k].bits, "read_stereo: the bits of a bench example");
         test_stereo_payload(state, bench[k].bytes, bench[k].size);
     }
+}
+
+/* A payload coded across time, after one of another mode: refused at its time flag. */
+static void test_other_mode(void)
+{
+    static const uint8_t first[] = { 0xc0, 0x40, 0 }, second[] = { 0xc8, 0x60 };
+    uint8_t state[OARCRADLER_SIZE_STATE];
+    expect_number(oarcradler_fresh_state(state, sizeof state), 0, "fresh_state");
+    test_stereo_payload(state, first, sizeof first);
+    expect_returned(read_twice(state, second, sizeof second).returned, 31, 10, "read_stereo across time in another mode");
 }
 
 /* A published payload: ICC in mode 1 alone, eleven bands at 5. */
@@ -209,7 +248,7 @@ static void test_published(void)
     after[OARCRADLER_AT_STATE_ICC_ON] = after[OARCRADLER_AT_STATE_ICC_MODE] = after[OARCRADLER_AT_STATE_ICC] = 1;
     memset(after + OARCRADLER_AT_STATE_ICC + 1, 5, 11);
     struct reading r = read_twice(state, payload, sizeof payload);
-    expect_number(r.number, 0, "read_stereo of a published payload");
+    expect_number(r.returned, 0, "read_stereo of a published payload");
     expect(memcmp(r.answer, wanted, sizeof wanted) == 0, "read_stereo: the answer of a published payload");
     expect(memcmp(r.state, after, sizeof after) == 0, "read_stereo: the state after a published payload");
     test_stereo_payload(state, payload, sizeof payload);
@@ -239,6 +278,7 @@ static void test_unwritable(void)
 void test_known_stereo(void)
 {
     test_bench();
+    test_other_mode();
     test_published();
     test_unwritable();
 }

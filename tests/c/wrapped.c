@@ -11,13 +11,13 @@ static void print_wrapped(uint32_t k, uint32_t start, uint32_t end)
 {
     static uint8_t frame[OARCRADLER_MOST_WRAPPED];
     uint8_t answer[OARCRADLER_SIZE_WRAPPED];
-    uint32_t number = oarcradler_wrap_stream(image.bytes, image.size, start, end, image.index, frame, sizeof frame, answer,
+    uint32_t returned = oarcradler_wrap_stream(image.bytes, image.size, start, end, image.index, frame, sizeof frame, answer,
         sizeof answer);
-    if (number != 0) {
-        printf("%u refused %u\n", (unsigned)k, (unsigned)number);
+    printf("%u ", (unsigned)k);
+    if (returned != 0) {
+        print_refused(returned);
         return;
     }
-    printf("%u ", (unsigned)k);
     for (uint32_t byte = 0; byte < oarcradler_word(answer + OARCRADLER_AT_WRAPPED_LENGTH); byte++)
         printf("%02x", (unsigned)frame[byte]);
     printf("\n");

@@ -85,7 +85,7 @@ module _ (index : ℕ) (s : List ℕ) (end : ℕ) where
       let there = split (stream index s (tag .1) end) _ s end last x (tag .3) in
       let value = same-value (there .3) in
       let next : there .1 ≡ last = cc in
-      let w = stream-lawful index .within s (tag .1) end (there .1) (there .0) (omega arith) (there .2) in
+      let w = stream-lawful index .accepts .within s (tag .1) end (there .1) (there .0) (omega arith) (there .2) in
       let used : x .bits ≡ there .1 - tag .1 = sym (ap (λ (y : Block). y .bits) value) in
       let same = ap (λ (y : Block). got (y .stream) (there .1)) value ∙ ap (got (x .stream)) next in
       (omega arith, omega arith, ap (λ (k : ℕ). stream index s k end) (sym a) ∙ there .2 ∙ same)
@@ -114,7 +114,7 @@ module _ (index : ℕ) (s : List ℕ) (end : ℕ) where
   pub bits-within : (x : Stream) (bits : ℕ) → streamIn (rawBlock index s 56 end) ≡ got x bits → 63 + bits ≤ end
   bits-within x bits e =
       let h = stream-held (rawBlock index s 56 end) refl x bits e in
-      stream-lawful index .within s 63 end (63 + bits) x (h .0) (h .1) .1
+      stream-lawful index .accepts .within s 63 end (63 + bits) x (h .0) (h .1) .1
 
 -- a stream that was read, whatever its arrays are
 pub head-held : (r : Ended) (h : Head) (books factors : List ℕ) (lines : List ℤ) (x : Answer Stream) → HoldsStream r h books factors lines x

@@ -1,17 +1,17 @@
 -- What is promised of a call: its answer, and what is lent afterwards.
 use Prim.Native.Nat.{ℕ}
 use mathlib.Core.Path.{_≡_}
-use mathlib.Core.List.{List}
-use mathlib.Core.Bool.{Bool, true, _&&_}
+use mathlib.Core.List.{List, [], _∷_}
+use mathlib.Core.Bool.{Bool, true}
 use lib.Dec.{leb}
-use lib.IntN.{ℤ}
 use lib.ListN.{length, drop}
 use Rattle.bits.specs.Reader.{Answer, got, refused, pick}
 use Rattle.bits.specs.Bytes.{over}
 use Rattle.bits.specs.Packed.{bytesFor}
-use Rattle.bits.specs.Payload.{range}
+use Rattle.bits.specs.Payload.{Range, bytesIn}
+use Rattle.bits.specs.Calls.{_or_, firstRefusal}
 use Rattle.channel.specs.Stream.{Stream}
-use Rattle.channel.specs.Promise.{channel, readingOf, linesAfter, factorsAfter, booksAfter}
+use Rattle.channel.specs.Promise.{Outputs, haveRoom, channel, readingOf, outputsAfter}
 use Rattle.channel.specs.declared.Reading.{Reading}
 use Rattle.adts.specs.Header.{Header}
 use Rattle.adts.specs.Frame.{frameHeader, frameStream}
@@ -20,9 +20,10 @@ use Rattle.adts.specs.Wrapping.{frameLength, wrapping}
 use Rattle.adts.specs.declared.Framed.{Framed}
 use Rattle.adts.specs.declared.Wrapped.{Wrapped}
 
--- the header of the frame at a byte of a file: 1 where the start is past the file's end, 2 where an output is too short, before its own
+-- the header of the frame at a byte of a file: the start, and whether the outputs have room, are judged before it
 unfoldable pub headerAt : List ℕ → ℕ → Bool → Answer Header
-headerAt file start room = pick (leb start (length file)) (pick room (frameHeader (drop start file)) (refused 2 0)) (refused 1 0)
+headerAt file start room =
+    firstRefusal (leb start (length file) or 1 ∷ room or 2 ∷ []) (λ n. refused n 0) (frameHeader (drop start file))
 
 -- the stream of the frame at a byte of a file, after its header, and the bits that it used
 abbrev pub streamAt : List ℕ → ℕ → Answer Header → Answer Stream
@@ -33,17 +34,18 @@ abbrev pub framed : Answer Header → Reading → Framed
 framed (got h next) r = record { index = h .index; length = h .length; reading = r }
 framed (refused n place) r = record { index = 0; length = 0; reading = r }
 
--- the lines, scale factors and books that a stream has fit the lent outputs
-abbrev pub outputsFit : ℕ → ℕ → ℕ → Bool
-outputsFit lines factors books = leb 1024 lines && leb 120 factors && leb 120 books
+-- what reading a frame is given: a file, where the frame starts, and the lent outputs
+pub record FrameCall : Type 0 where
+  pub file : List ℕ
+  pub start : ℕ
+  pub outputs : Outputs
 
--- everything that reading a frame gives: the answer, and the lines, scale factors and books afterwards
-abbrev pub ReadFramePromise : List ℕ → ℕ → List ℤ → List ℕ → List ℕ → Framed → List ℤ → List ℕ → List ℕ → Type 0
-ReadFramePromise file start lines factors books r lines′ factors′ books′ =
-    let h = headerAt file start (outputsFit (length lines) (length factors) (length books)) in
-    let x = streamAt file start h in
-    (r ≡ framed h (readingOf x))
-    × ((lines′ ≡ linesAfter x lines) × ((factors′ ≡ factorsAfter x factors) × (books′ ≡ booksAfter x books)))
+-- everything that reading a frame gives: the answer, and the outputs afterwards
+abbrev pub ReadFramePromise : FrameCall → Framed → Outputs → Type 0
+ReadFramePromise c r after =
+    let h = headerAt (c .file) (c .start) (haveRoom (c .outputs)) in
+    let x = streamAt (c .file) (c .start) h in
+    (r ≡ framed h (readingOf x)) × (after ≡ outputsAfter x (c .outputs))
 
 -- a stream, which takes bytes by the bits that it used, has to fit so many, or 2
 abbrev pub fitted : (ℕ → ℕ) → ℕ → Answer Stream → Answer Stream
@@ -62,22 +64,28 @@ UnwrapPromise file start out r out′ =
     let x = fitted bytesFor (length out) (streamAt file start h) in
     (r ≡ framed h (readingOf x)) × (out′ ≡ unwrapped (drop start file) x out)
 
--- a channel stream in a range of a buffer, or what refuses it, as the channel's reader says; 2 last, where its frame does not fit
-unfoldable pub wrappable : List ℕ → ℕ → ℕ → ℕ → ℕ → Answer Stream
-wrappable buf start end index room = fitted frameLength room (channel buf start end index 1024 120 120)
+-- a channel stream in a range, or what refuses it, as the channel's reader says; 2 last, where its frame does not fit
+unfoldable pub wrappable : Range → ℕ → ℕ → Answer Stream
+wrappable p index room = fitted frameLength room (channel p index true)
 
 -- the answer: the frame's length in bytes
 abbrev pub wrappedOf : Answer Stream → Wrapped
-wrappedOf (got x bits) = record { number = 0; length = frameLength bits }
-wrappedOf (refused n place) = record { number = n; length = 0 }
+wrappedOf (got x bits) = record { number = 0; place = 0; length = frameLength bits }
+wrappedOf (refused n place) = record { number = n; place = place; length = 0 }
 
 -- the lent bytes after wrapping the stream that is at the front of some bytes, or as they were
 abbrev pub wrappedBytes : ℕ → List ℕ → Answer Stream → List ℕ → List ℕ
 wrappedBytes index bytes (got x bits) old = over old 0 (wrapping index bytes bits)
 wrappedBytes index bytes (refused n place) old = old
 
+-- what wrapping is given: where the payload stands, the sampling index, and the lent bytes
+pub record WrapCall : Type 0 where
+  pub payload : Range
+  pub index : ℕ
+  pub out : List ℕ
+
 -- everything that wrapping a channel stream gives: the answer, and the lent bytes afterwards
-abbrev pub WrapPromise : List ℕ → ℕ → ℕ → ℕ → List ℕ → Wrapped → List ℕ → Type 0
-WrapPromise buf start end index out r out′ =
-    let x = wrappable buf start end index (length out) in
-    (r ≡ wrappedOf x) × (out′ ≡ wrappedBytes index (range buf start end) x out)
+abbrev pub WrapPromise : WrapCall → Wrapped → List ℕ → Type 0
+WrapPromise c r after =
+    let x = wrappable (c .payload) (c .index) (length (c .out)) in
+    (r ≡ wrappedOf x) × (after ≡ wrappedBytes (c .index) (bytesIn (c .payload)) x (c .out))

@@ -8,7 +8,7 @@ ghost use Rattle.channel.specs.Stream.{stream};
 ghost use Rattle.channel.specs.Promise.{refusal, readingOf, linesAfter, factorsAfter, booksAfter};
 ghost use Rattle.adts.specs.Frame.{frameHeader};
 ghost use Rattle.adts.specs.Wrapping.{frameLength};
-ghost use Rattle.adts.specs.Promise.{framed, outputsFit, fitted, unwrapped, wrappedOf, wrappedBytes};
+ghost use Rattle.adts.specs.Promise.{framed, fitted, unwrapped, wrappedOf, wrappedBytes};
 ghost use Rattle.adts.specs.Promise.{ReadFramePromise, UnwrapPromise, WrapPromise};
 ghost use Rattle.adts.specs.InnerAnswers.{Used, firstStream};
 use crate::block::read_block;
@@ -33,33 +33,21 @@ pub struct Framed {
     pub reading: Reading,
 }
 
-// What wrapping gave: a refusal's number, or 0 with the frame's length in bytes.
+// What wrapping gave: a refusal's number and the bit at which the stream was refused, or 0 with the frame's length in bytes.
 pub struct Wrapped {
     pub number: u8,
+    pub place: usize,
     pub length: usize,
-}
-
-// Whether what a stream has fits the lent outputs.
-fn outputs_fit(lines: usize, factors: usize, books: usize) -> bool
-    ensures { λ r. ⌜ r ≡ outputsFit lines factors books ⌝ }
-{
-    if lines < 1024 {
-        return false;
-    }
-    if factors < 120 {
-        return false;
-    }
-    120 <= books
 }
 
 // The answer to a frame whose header is refused, or was not looked at.
 fn unframed(number: u8) -> Framed
-    ensures { λ r. ⌜ r ≡ record { index = 0; length = 0; reading = refusal number } ⌝ }
+    ensures { λ r. ⌜ r ≡ record { index = 0; length = 0; reading = refusal number 0 } ⌝ }
 {
     Framed {
         index: 0,
         length: 0,
-        reading: channel::refused(number),
+        reading: channel::refused(number, 0),
     }
 }
 
@@ -107,7 +95,7 @@ fn read_first(s: &[u8], lines: &mut [i16], factors: &mut [u8], books: &mut [u8])
             channel::copy_bands(books, band_books);
             with_header(header, channel::answer(read.head, bits))
         }
-        Ended::Refused(number, _) => with_header(header, channel::refused(number)),
+        Ended::Refused(number, place) => with_header(header, channel::refused(number, place)),
     }
 }
 
@@ -119,13 +107,18 @@ pub fn read_frame(
     factors: &mut [u8],
     books: &mut [u8],
 ) -> Framed
-    ensures { λ r. ⌜ ReadFramePromise (now (file .entry)) start (now (lines .entry)) (now (factors .entry)) (now (books .entry))
-        r (now (lines .exit)) (now (factors .exit)) (now (books .exit)) ⌝ }
+    ensures { λ r. ⌜ ReadFramePromise
+        (record {
+          file = now (file .entry);
+          start = start;
+          outputs = record { lines = now (lines .entry); factors = now (factors .entry); books = now (books .entry) };
+        })
+        r (record { lines = now (lines .exit); factors = now (factors .exit); books = now (books .exit) }) ⌝ }
 {
     if file.len() < start {
         return unframed(1);
     }
-    if !outputs_fit(lines.len(), factors.len(), books.len()) {
+    if !channel::outputs_fit(lines.len(), factors.len(), books.len()) {
         return unframed(2);
     }
     read_first(&file[start..], lines, factors, books)
@@ -148,12 +141,12 @@ fn unwrap_first(s: &[u8], out: &mut [u8]) -> Framed
     match ended {
         Ended::At(bits) => {
             if out.len() < (bits + 7) / 8 {
-                return with_header(header, channel::refused(2));
+                return with_header(header, channel::refused(2, 0));
             }
             cut_out(out, s, 63, bits);
             with_header(header, channel::answer(read.head, bits))
         }
-        Ended::Refused(number, _) => with_header(header, channel::refused(number)),
+        Ended::Refused(number, place) => with_header(header, channel::refused(number, place)),
     }
 }
 
@@ -168,10 +161,14 @@ pub fn unwrap(file: &[u8], start: usize, out: &mut [u8]) -> Framed
 }
 
 // The answer to a wrapping that is refused.
-fn unwrappable(number: u8) -> Wrapped
-    ensures { λ r. ⌜ r ≡ record { number = number; length = 0 } ⌝ }
+fn unwrappable(number: u8, place: usize) -> Wrapped
+    ensures { λ r. ⌜ r ≡ record { number = number; place = place; length = 0 } ⌝ }
 {
-    Wrapped { number, length: 0 }
+    Wrapped {
+        number,
+        place,
+        length: 0,
+    }
 }
 
 // How many bits the channel stream in a slice used.
@@ -196,23 +193,33 @@ fn wrap_slice(s: &[u8], index: u8, out: &mut [u8]) -> Wrapped
         Ended::At(bits) => {
             let length = frame_length(bits);
             if out.len() < length {
-                return unwrappable(2);
+                return unwrappable(2, 0);
             }
             put_frame(out, s, index, bits);
-            Wrapped { number: 0, length }
+            Wrapped {
+                number: 0,
+                place: 0,
+                length,
+            }
         }
-        Ended::Refused(number, _) => unwrappable(number),
+        Ended::Refused(number, place) => unwrappable(number, place),
     }
 }
 
 // The channel stream in the bytes from start to end of a buffer, for a sampling index, wrapped as one frame at the front of a lent
 // buffer where it is accepted and its frame fits.
 pub fn wrap(buf: &[u8], start: usize, end: usize, index: u8, out: &mut [u8]) -> Wrapped
-    ensures { λ r. ⌜ WrapPromise (now (buf .entry)) start end index (now (out .entry)) r (now (out .exit)) ⌝ }
+    ensures { λ r. ⌜ WrapPromise
+        (record {
+          payload = record { bytes = now (buf .entry); start = start; end = end };
+          index = index;
+          out = now (out .entry);
+        })
+        r (now (out .exit)) ⌝ }
 {
-    let number = channel::channel_call_refusal(buf.len(), start, end, index, 1024, 120, 120);
+    let number = channel::channel_refusal(buf.len(), start, end, true, index);
     if number != 0 {
-        return unwrappable(number);
+        return unwrappable(number, 0);
     }
     wrap_slice(&buf[start..end], index, out)
 }

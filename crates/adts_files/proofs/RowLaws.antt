@@ -57,7 +57,16 @@ pub row-is : (bytes : List ℕ) (f : Framed) (number index gain lines step : ℕ
     → f ≡ framed (frameHeader bytes) (readingOf (frameStream bytes (frameHeader bytes))) → number ≡ f .reading .number → index ≡ f .index
     → gain ≡ f .reading .gain → lines ≡ soundingIn (frameStream bytes (frameHeader bytes)) → step ≡ stepOf f
     → _≡_ {A = Row}
-    (record { number = number; length = f .length; index = index; gain = gain; lines = lines; bits = f .reading .bits; step = step })
+    (record {
+      number = number;
+      place = f .reading .place;
+      length = f .length;
+      index = index;
+      gain = gain;
+      lines = lines;
+      bits = f .reading .bits;
+      step = step;
+    })
     (rowOf bytes)
 unfolding rowOf
 row-is bytes f number index gain lines step e n i g l s = rw (n, i, g, l, s, e)

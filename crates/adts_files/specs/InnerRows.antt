@@ -24,6 +24,7 @@ abbrev pub rowIn : Framed → ℕ → Row
 rowIn f lines =
     record {
       number = f .reading .number;
+      place = f .reading .place;
       length = f .length;
       index = f .index;
       gain = f .reading .gain;

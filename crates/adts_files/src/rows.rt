@@ -8,10 +8,11 @@ ghost use Rattle.adts_files.specs.InnerRows.{rowOf};
 use sounding::count_sounding;
 use sounding::no_lines;
 
-// The numbers of a frame: its refusal, or 0, its length and sampling index where its header is accepted, its gain, sounding lines and bits
-// where its stream is, and how far it is to the next frame, or 0 where none is known.
+// The numbers of a frame: its refusal and the bit at which it was refused, or 0, its length and sampling index where its header is
+// accepted, its gain, sounding lines and bits where its stream is, and how far it is to the next frame, or 0 where none is known.
 pub struct Row {
     pub number: usize,
+    pub place: usize,
     pub length: usize,
     pub index: usize,
     pub gain: usize,
@@ -46,6 +47,7 @@ pub fn read_row(bytes: &[u8]) -> Row
     let f = adts::read_frame(bytes, 0, &mut lines, &mut factors, &mut books);
     Row {
         number: wide(f.reading.number),
+        place: f.reading.place,
         length: f.length,
         index: wide(f.index),
         gain: wide(f.reading.gain),

@@ -4,22 +4,23 @@
 use Prim.Native.Nat.{ℕ, _+_, _*_, _-_, _<_, _≤_}
 use mathlib.Core.Path.{_≡_, refl, sym, _∙_, ap}
 use mathlib.Core.Bool.{Bool, true, false}
-use mathlib.Core.List.{List}
+use mathlib.Core.List.{List, [], _∷_}
 use native.Mathlib.Omega.{arith}
-use lib.Dec.{eqb, leb}
+use lib.Dec.{leb}
 use lib.ListN.{length, take, drop}
 use lib.Seq.{take-append-seam, take-all}
 use borrow.Author.Tests.{le-leb, leb-true}
 use Rattle.bits.specs.Reader.{Answer, got, refused, pick}
 use Rattle.bits.specs.Bytes.{over}
 use Rattle.bits.specs.Packed.{bytesFor}
-use Rattle.bits.specs.Payload.{inBuffer, range, whole}
+use Rattle.bits.specs.Payload.{Range, range, rangeIn, isThere, bytesIn, whole}
+use Rattle.bits.specs.Calls.{_or_, firstRefusal}
 use Rattle.bits.specs.Sampling.{knownIndex}
 use Rattle.bits.proofs.Lawful.{never}
 use Rattle.bits.proofs.OverLaws.{over-front, over-length}
 use Rattle.bits.proofs.SamplingLaws.{known-small}
 use Rattle.channel.specs.Stream.{Stream, stream}
-use Rattle.channel.specs.Promise.{channelCallRefusal, channel}
+use Rattle.channel.specs.Promise.{channel}
 use Rattle.adts.specs.Header.{Header}
 use Rattle.adts.specs.Frame.{frameHeader, streamIn}
 use Rattle.adts.specs.Cut.{cutOut}
@@ -42,28 +43,25 @@ fitted-held size room (got z n) x bits e = go (leb (size n) room) refl e
     go false p e = never e
 
 -- a stream that the channel's reader accepts, whose outputs always fit
-channel-held : (buf : List ℕ) (start end index : ℕ) (x : Stream) (bits : ℕ) → channel buf start end index 1024 120 120 ≡ got x bits
-    → (knownIndex index ≡ true) × (whole (stream index) (range buf start end) ≡ got x bits)
-unfolding channel channelCallRefusal
-channel-held buf start end index x bits e = go (inBuffer start end (length buf)) (knownIndex index) refl e
+channel-held : (p : Range) (index : ℕ) (x : Stream) (bits : ℕ) → channel p index true ≡ got x bits
+    → (knownIndex index ≡ true) × (whole (stream index) (bytesIn p) ≡ got x bits)
+unfolding channel
+channel-held q index x bits e = go (isThere q) (knownIndex index) refl e
   where
-    made : Bool → Bool → ℕ
-    made a b = pick a (pick b 0 3) 1
-
     go : (a b : Bool) → knownIndex index ≡ b
-        → pick (eqb (made a b) 0) (whole (stream index) (range buf start end)) (refused (made a b) 0) ≡ got x bits
-        → (knownIndex index ≡ true) × (whole (stream index) (range buf start end) ≡ got x bits)
+        → firstRefusal (a or 1 ∷ b or 3 ∷ []) (λ n. refused n 0) (whole (stream index) (bytesIn q)) ≡ got x bits
+        → (knownIndex index ≡ true) × (whole (stream index) (bytesIn q) ≡ got x bits)
     go true true p e = (p, e)
     go false b p e = never e
     go true false p e = never e
 
 -- a stream that can be wrapped is one that the channel's reader accepts, and its frame fits
-pub wrappable-held : (buf : List ℕ) (start end index room : ℕ) (x : Stream) (bits : ℕ) → wrappable buf start end index room ≡ got x bits
-    → (knownIndex index ≡ true) × (whole (stream index) (range buf start end) ≡ got x bits) × (frameLength bits ≤ room)
+pub wrappable-held : (p : Range) (index room : ℕ) (x : Stream) (bits : ℕ) → wrappable p index room ≡ got x bits
+    → (knownIndex index ≡ true) × (whole (stream index) (bytesIn p) ≡ got x bits) × (frameLength bits ≤ room)
 unfolding wrappable
-wrappable-held buf start end index room x bits e =
-    let f = fitted-held frameLength room (channel buf start end index 1024 120 120) x bits e in
-    let c = channel-held buf start end index x bits (f .0) in
+wrappable-held p index room x bits e =
+    let f = fitted-held frameLength room (channel p index true) x bits e in
+    let c = channel-held p index x bits (f .0) in
     (c .0, c .1, f .1)
 
 -- a frame at the front of a buffer, with other bytes after it
@@ -76,7 +74,7 @@ cut-inside b c size n e h = cut-same b c 63 63 n (λ i l. front-same b c size e 
 
 -- wrap, then read and unwrap: the stream's numbers, index and bit count, and exactly the bits that it used
 module _ (buf : List ℕ) (start end index : ℕ) (out : List ℕ) (x : Stream) (bits : ℕ)
-    (e : wrappable buf start end index (length out) ≡ got x bits) where
+    (e : wrappable (rangeIn buf start end) index (length out) ≡ got x bits) where
   abbrev file : List ℕ
   file = wrappedBytes index (range buf start end) (got x bits) out
 
@@ -84,7 +82,7 @@ module _ (buf : List ℕ) (start end index : ℕ) (out : List ℕ) (x : Stream) 
   made = record { index = index; length = frameLength bits }
 
   held : (knownIndex index ≡ true) × (whole (stream index) (range buf start end) ≡ got x bits) × (frameLength bits ≤ length out)
-  held = wrappable-held buf start end index (length out) x bits e
+  held = wrappable-held (rangeIn buf start end) index (length out) x bits e
 
   small : index < 16
   small = omega (arith, known-small index (held .0))
@@ -161,8 +159,8 @@ module _ (file : List ℕ) (start : ℕ) (room : Bool) (h : Header) (next : ℕ)
       let n : bytesFor bits - 0 ≡ length cut = omega (arith, cut-length (drop start file) 63 bits) in
       ap (λ (k : ℕ). take k payload) n ∙ front cut out
 
-  pub unwrapped-accepted : (y : Stream) × (channel payload 0 (bytesFor bits) (h .index) 1024 120 120 ≡ got y bits) × SameNumbers y x
-  unfolding channel channelCallRefusal
+  pub unwrapped-accepted : (y : Stream) × (channel (rangeIn payload 0 (bytesFor bits)) (h .index) true ≡ got y bits) × SameNumbers y x
+  unfolding channel
   unwrapped-accepted =
       let cut = cutOut (drop start file) 63 bits in
       let long = cut-length (drop start file) 63 bits in
@@ -177,14 +175,14 @@ module _ (file : List ℕ) (start : ℕ) (room : Bool) (h : Header) (next : ℕ)
   -- wrapped again, it reads the same
   pub rewrapped-reads : (again : List ℕ) → frameLength bits ≤ length again
       → (y z : Stream)
-      × (wrappable payload 0 (bytesFor bits) (h .index) (length again) ≡ got y bits)
+      × (wrappable (rangeIn payload 0 (bytesFor bits)) (h .index) (length again) ≡ got y bits)
       × (streamAt (wrappedBytes (h .index) (range payload 0 (bytesFor bits)) (got y bits) again) 0
       (headerAt (wrappedBytes (h .index) (range payload 0 (bytesFor bits)) (got y bits) again) 0 true) ≡ got z bits)
       × SameNumbers z x
   unfolding wrappable
   rewrapped-reads again l =
       let w = unwrapped-accepted in
-      let e′ : wrappable payload 0 (bytesFor bits) (h .index) (length again) ≡ got (w .0) bits =
+      let e′ : wrappable (rangeIn payload 0 (bytesFor bits)) (h .index) (length again) ≡ got (w .0) bits =
       ap (fitted frameLength (length again)) (w .1) ∙ rw (le-leb (frameLength bits) (length again) l) in
       let r = wrapped-stream-read payload 0 (bytesFor bits) (h .index) again (w .0) bits e′ in
       (w .0, r .0, e′, r .1, same-trans (r .2) (w .2))

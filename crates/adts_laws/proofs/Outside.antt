@@ -34,11 +34,11 @@ header-lawful : Lawful header
 unfolding header fixedHalf variableHalf syncword only samplingIndex
 header-lawful = search laws depth 24
 
-element-lawful : (id : ℕ) → Lawful (element id)
+pub element-lawful : (id : ℕ) → Lawful (element id)
 unfolding element
 element-lawful id = search laws depth 4
 
-channel-lawful : (index : ℕ) → Lawful (singleChannel index)
+pub channel-lawful : (index : ℕ) → Lawful (singleChannel index)
 unfolding singleChannel
 channel-lawful index = search (laws, element-lawful, stream-lawful) depth 16
 
@@ -47,9 +47,9 @@ pub block-local : (index : ℕ) (b c : List ℕ) (end : ℕ) → 56 ≤ end → 
 unfolding rawBlock ended
 block-local index b c end h q =
     let g = channel-lawful index in
-    after-local (singleChannel index) _ b c 56 end (g .local b c 56 end h q) λ x m e.
-    let w = g .within b 56 end m x h e in
-    let id = element-lawful 7 .local b c m end (w .1) (λ i l r. q i (omega arith) r) in
+    after-local (singleChannel index) _ b c 56 end (g .accepts .local b c 56 end h q) λ x m e.
+    let w = g .accepts .within b 56 end m x h e in
+    let id = element-lawful 7 .accepts .local b c m end (w .1) (λ i l r. q i (omega arith) r) in
     after-local (element 7) (λ v. ended x) b c m end id (λ v k f. refl)
 
 -- a header that is accepted: its length is judged, and it is the one that its bits say
@@ -103,7 +103,8 @@ module _ (b c : List ℕ) (h : Header) (next : ℕ) (e : frameHeader b ≡ got h
   same-header =
       let a = header-held b h next e in
       let long = front-long b c (h .length) q (a .3) in
-      let same = header-lawful .local c b 0 56 (omega arith) (λ i l r. sym (front-same b c (h .length) q i l (omega (arith, a .2)))) in
+      let same = header-lawful .accepts .local c b 0 56 (omega arith)
+      (λ i l r. sym (front-same b c (h .length) q i l (omega (arith, a .2)))) in
       whole-header c (omega (arith, a .2))
       ∙ ap (λ (x : Answer Header). lengthJudged (length c) (placed (renumbered 10 x) 0)) same
       ∙ ap (lengthJudged (length c)) (a .1)

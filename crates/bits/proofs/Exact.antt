@@ -47,7 +47,7 @@ pub scratch-read : {A : Type 0} (r : Reader A) → Lawful r → (n : ℕ) (ps : 
     → r (putAll (replicate n 0) 0 ps) 0 (total ps) ≡ r (packed ps) 0 (total ps)
 scratch-read r g n ps h =
     rw (scratch n ps h)
-    (g .local (packed ps ++ replicate (n - bytesFor (total ps)) 0) (packed ps) 0 (total ps) (omega arith)
+    (g .accepts .local (packed ps ++ replicate (n - bytesFor (total ps)) 0) (packed ps) 0 (total ps) (omega arith)
     (λ i a b. bit-append (packed ps) (replicate (n - bytesFor (total ps)) 0) i (omega (arith, packed-length ps))))
 
 -- a payload that is read to a value
@@ -68,10 +68,10 @@ module _ {A : Type 0} (r : Reader A) (w : A → List Piece) (ok : A → Type 0) 
   read-back s t end next end′ a e h l =
       let u = used s end next a e in
       let v : r s 0 (total (w a)) ≡ got a (total (w a)) =
-      subst (λ (m : ℕ). r s 0 m ≡ got a m) (u .1) (g .stable s 0 end next next a (omega arith) e (omega arith)) in
+      subst (λ (m : ℕ). r s 0 m ≡ got a m) (u .1) (g .accepts .stable s 0 end next next a (omega arith) e (omega arith)) in
       let z : r t 0 (total (w a)) ≡ got a (total (w a)) =
-      sym (g .local s t 0 (total (w a)) (omega arith) (λ i l k. holds-same s t 0 (w a) (u .0) h i l (omega arith))) ∙ v in
-      g .stable t 0 (total (w a)) (total (w a)) end′ a (omega arith) z l
+      sym (g .accepts .local s t 0 (total (w a)) (omega arith) (λ i l k. holds-same s t 0 (w a) (u .0) h i l (omega arith))) ∙ v in
+      g .accepts .stable t 0 (total (w a)) (total (w a)) end′ a (omega arith) z l
 
   pub spelling-read : (s : List ℕ) (end next : ℕ) (a : A) → r s 0 end ≡ got a next → r (packed (w a)) 0 (total (w a)) ≡ got a (total (w a))
   spelling-read s end next a e =
@@ -117,8 +117,8 @@ module _ {A : Type 0} (r : Reader A) (w : A → List Piece) (ok : A → Type 0) 
     pub can : (a : A) → writable same r w a ≡ true → ReadTo r a
     can a e =
         let l = packed-length (w a) in
-        let b = g .stable (packed (w a)) 0 (total (w a)) (total (w a)) (8 * length (packed (w a))) a (omega arith) (written-read a e)
-        (omega arith) in
+        let b = g .accepts .stable (packed (w a)) 0 (total (w a)) (total (w a)) (8 * length (packed (w a))) a (omega arith)
+        (written-read a e) (omega arith) in
         (packed (w a), packed-bytes (w a), total (w a), whole-is r (packed (w a)) (total (w a)) a b (omega arith))
 
     pub cannot : (a : A) → writable same r w a ≡ false → ReadTo r a → ⊥

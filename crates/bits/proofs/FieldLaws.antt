@@ -11,7 +11,7 @@ use Rattle.bits.specs.Bits.{bitsFrom}
 use Rattle.bits.specs.Reader.{got, refused}
 use Rattle.bits.specs.Field.{field, zeroBit}
 use Rattle.bits.proofs.BitLaws.{bitsFrom-same}
-use Rattle.bits.proofs.Lawful.{Lawful, never, expecting-lawful}
+use Rattle.bits.proofs.Lawful.{Lawful, never, not-refused, same-place, expecting-lawful}
 
 -- a field that is all there, and one that is not; the code's answer stands on the left, so that a `return` cites the law as it is
 pub is-field : {v : ℕ} (n : ℕ) (s : List ℕ) (at end : ℕ) → at + n ≤ end → v ≡ bitsFrom s at n → got v (at + n) ≡ field n s at end
@@ -41,19 +41,26 @@ field-taken n s at end next a e =
 
 pub field-lawful : (n : ℕ) → Lawful (field n)
 field-lawful n = record {
-  within = λ s at end next a h e. let w = field-taken n s at end next a e in omega arith;
-  local = λ s t at end h q.
+  accepts = record {
+    within = λ s at end next a h e. let w = field-taken n s at end next a e in omega arith;
+    local = λ s t at end h q.
+        elim (field-cases n s at end) [
+          | inl w ↦ w .1 ∙ is-field n t at end (w .0) (bitsFrom-same s t at n end (w .0) q)
+          | inr w ↦ w .1 ∙ is-short n t at end (w .0)
+        ];
+    stable = λ s at end next end′ a h e l.
+        let w = field-taken n s at end next a e in
+        let x = is-field n s at end′ (omega arith) refl in
+        cc;
+    cut = λ s at end next end′ a h e l g.
+        let w = field-taken n s at end next a e in
+        (at, sym (is-short n s at end′ (omega arith)));
+  };
+  placed = λ s at end m p h e.
       elim (field-cases n s at end) [
-        | inl w ↦ w .1 ∙ is-field n t at end (w .0) (bitsFrom-same s t at n end (w .0) q)
-        | inr w ↦ w .1 ∙ is-short n t at end (w .0)
+        | inl w ↦ not-refused (sym (w .1) ∙ e)
+        | inr w ↦ let q = same-place {A = ℕ} (sym (w .1) ∙ e) in omega arith
       ];
-  stable = λ s at end next end′ a h e l.
-      let w = field-taken n s at end next a e in
-      let x = is-field n s at end′ (omega arith) refl in
-      cc;
-  cut = λ s at end next end′ a h e l g.
-      let w = field-taken n s at end next a e in
-      (at, sym (is-short n s at end′ (omega arith)));
 }
 
 pub zeroBit-lawful : (n : ℕ) → Lawful (zeroBit n)

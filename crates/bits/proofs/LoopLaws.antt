@@ -6,13 +6,18 @@ use mathlib.Core.List.{List, [], _∷_, _++_}
 use native.Mathlib.Omega.{arith}
 use Rattle.bits.specs.Reader.{got, refused, Reader, give}
 use Rattle.bits.specs.Loop.{counted, more, listed}
-use Rattle.bits.proofs.Lawful.{Lawful, bind-lawful, give-lawful}
+use Rattle.bits.proofs.Lawful.{Accepting, Lawful, bind-accepting, bind-lawful, give-lawful}
 
 module _ {S : Type 0} (f : ℕ → S → Reader S) where
   pub counted-lawful : ((i : ℕ) (x : S) → Lawful (f i x)) → (i n : ℕ) (x : S) → Lawful (counted i n f x)
   unfolding counted
   counted-lawful g i zero x = give-lawful x
   counted-lawful g i (suc n) x = bind-lawful (f i x) (counted (i + 1) n f) (g i x) (counted-lawful g (i + 1) n)
+
+  pub counted-accepting : ((i : ℕ) (x : S) → Accepting (f i x)) → (i n : ℕ) (x : S) → Accepting (counted i n f x)
+  unfolding counted
+  counted-accepting g i zero x = give-lawful x .accepts
+  counted-accepting g i (suc n) x = bind-accepting (f i x) (counted (i + 1) n f) (g i x) (counted-accepting g (i + 1) n)
 
   pub counted-start : (n : ℕ) (x : S) (s : List ℕ) (at end : ℕ) → counted 0 n f x s at end ≡ counted 0 (n - 0) f x s at end
   counted-start n x s at end = let q : n - 0 ≡ n = omega arith in rw q

@@ -17,7 +17,8 @@ use Rattle.bits.specs.Loop.{counted, listed, turns, while}
 use Rattle.bits.specs.Places.{oneField, here, placed}
 use Rattle.bits.specs.Inside.{inside}
 use Rattle.bits.specs.Payload.{ended, whole}
-use Rattle.bits.proofs.Lawful.{never, same-value, split, tested-got}
+use Rattle.bits.proofs.Lawful.{Lawful, never, same-value, split, tested-got}
+use Rattle.bits.proofs.PayloadLaws.{placed-inside}
 use Rattle.bits.proofs.FieldLaws.{is-field, field-taken}
 use Rattle.bits.proofs.PlacesLaws.{placed-got}
 use Rattle.bits.proofs.InsideLaws.{Filling, inside-got, inside-there}
@@ -209,6 +210,10 @@ module _ {A : Type 0} (k : ℕ) (r : Reader A) (c : Near (8 * k) r) (s : List �
         | yes d ↦ far view (8 * length s) (omega arith) (omega arith) (r s 0 view) refl
         | no d ↦ let e : min (length s) (k + 1) ≡ length s = omega arith in ap (λ (n : ℕ). (r >>= ended) s 0 (8 * n)) e
       ]
+
+  -- the place of a refusal is in view
+  pub near-placed : Lawful r → {n place : ℕ} → whole r s ≡ refused n place → place ≤ 8 * (k + 1)
+  near-placed g {n} {place} e = let l = placed-inside r g s view n place (whole-near ∙ e) in omega arith
 
   -- accepted; more than 7 bits left; refused
   pub near-got : {a : A} {next : ℕ} → r s 0 (8 * min (length s) (k + 1)) ≡ got a next → 8 * min (length s) (k + 1) - next ≤ 7

@@ -4,11 +4,11 @@ use Prim.Native.Nat.{ℕ, zero, suc, _+_, _-_}
 use mathlib.Core.Path.{_≡_, refl, sym, subst}
 use mathlib.Core.List.{List, [], _∷_, _++_}
 use mathlib.Core.Bool.{Bool, true, false, _||_}
-use native.Mathlib.Omega.{arith}
 use lib.Dec.{leb, eqb}
 use borrow.Author.Tests.{eqb-true}
 use Rattle.bits.specs.Lists.{oneOf}
 use Rattle.bits.proofs.Bools.{true-false}
+use Rattle.bits.proofs.Lawful.{not-refused}
 use Rattle.bits.specs.Bits.{bitsFrom}
 use Rattle.bits.specs.Reader.{Answer, got, refused, Reader, give, after, _>>=_, pick, tested, expecting}
 use Rattle.bits.specs.Field.{field, zeroBit}
@@ -16,10 +16,6 @@ use Rattle.bits.specs.Loop.{counted, more, listed, turns, while}
 use Rattle.bits.specs.Places.{placed, oneField, here}
 use Rattle.bits.specs.Inside.{renumbered, inside, Fill, leftOver}
 use Rattle.bits.specs.Payload.{ended, whole}
-
--- a value that was given is no refusal
-not-refused : {A X : Type 0} {a : A} {m n p : ℕ} → got a m ≡ refused n p → X
-not-refused e = let z : _≡_ {A = ℕ} 0 1 = cc in absurd (omega arith)
 
 -- a test that all of some numbers pass
 abbrev pub Pass : (ℕ → Bool) → List ℕ → Type 0

@@ -27,7 +27,7 @@ bind-takes r k t g = record {
   law = λ s at end next b e.
       let w = split (r s at end) k s end next b e in
       let u = t .law s at end (w .1) (w .0) (w .2) in
-      let v = g (w .0) .within s (w .1) end next b (u .1) (w .3) in
+      let v = g (w .0) .accepts .within s (w .1) end next b (u .1) (w .3) in
       omega arith;
 }
 
@@ -58,18 +58,21 @@ module _ {S : Type 0} (on : S → Bool) (f : S → Reader S) where
     pub while-lawful : ((x : S) → Lawful (f x)) → (x : S) → Lawful (while on f x)
     unfolding while
     while-lawful g x = record {
-      within = λ s at end next a h e. turns-lawful g _ x .within s at end next a h e;
-      local = λ s s′ at end h q. turns-lawful g _ x .local s s′ at end h q;
-      stable = λ s at end next end′ a h e l.
-          let n : ℕ = suc (end - at) + suc (end′ - at) in
-          let long = turns-enough t n (suc (end - at)) x s at end (omega arith) (omega arith) in
-          turns-enough t (suc (end′ - at)) n x s at end′ (omega arith) (omega arith)
-          ∙ turns-lawful g n x .stable s at end next end′ a h (long ∙ e) l;
-      cut = λ s at end next end′ a h e l o.
-          let n : ℕ = suc (end - at) + suc (end′ - at) in
-          let long = turns-enough t n (suc (end - at)) x s at end (omega arith) (omega arith) in
-          let y = turns-lawful g n x .cut s at end next end′ a h (long ∙ e) l o in
-          (y .0, turns-enough t (suc (end′ - at)) n x s at end′ (omega arith) (omega arith) ∙ y .1);
+      accepts = record {
+        within = λ s at end next a h e. turns-lawful g _ x .accepts .within s at end next a h e;
+        local = λ s s′ at end h q. turns-lawful g _ x .accepts .local s s′ at end h q;
+        stable = λ s at end next end′ a h e l.
+            let n : ℕ = suc (end - at) + suc (end′ - at) in
+            let long = turns-enough t n (suc (end - at)) x s at end (omega arith) (omega arith) in
+            turns-enough t (suc (end′ - at)) n x s at end′ (omega arith) (omega arith)
+            ∙ turns-lawful g n x .accepts .stable s at end next end′ a h (long ∙ e) l;
+        cut = λ s at end next end′ a h e l o.
+            let n : ℕ = suc (end - at) + suc (end′ - at) in
+            let long = turns-enough t n (suc (end - at)) x s at end (omega arith) (omega arith) in
+            let y = turns-lawful g n x .accepts .cut s at end next end′ a h (long ∙ e) l o in
+            (y .0, turns-enough t (suc (end′ - at)) n x s at end′ (omega arith) (omega arith) ∙ y .1);
+      };
+      placed = λ s at end n p h e. turns-lawful g _ x .placed s at end n p h e;
     }
 
     pub while-more : (x y : S) (s : List ℕ) (at end m : ℕ) → on x ≡ true → f x s at end ≡ got y m

@@ -14,6 +14,23 @@ inBuffer start end size = leb start end && leb end size
 abbrev pub range : List ℕ → ℕ → ℕ → List ℕ
 range bytes start end = take (end - start) (drop start bytes)
 
+-- where a payload stands: from a start to an end of a buffer
+pub record Range : Type 0 where
+  pub bytes : List ℕ
+  pub start : ℕ
+  pub end : ℕ
+
+abbrev pub rangeIn : List ℕ → ℕ → ℕ → Range
+rangeIn bytes start end = record { bytes = bytes; start = start; end = end }
+
+-- it lies in its buffer
+abbrev pub isThere : Range → Bool
+isThere p = inBuffer (p .start) (p .end) (length (p .bytes))
+
+-- its bytes
+abbrev pub bytesIn : Range → List ℕ
+bytesIn p = range (p .bytes) (p .start) (p .end)
+
 -- a value that was read, where at most 7 bits are left; else 12
 unfoldable pub ended : {A : Type 0} → A → Reader A
 ended a s at end = pick (leb (end - at) 7) (got a at) (refused 12 at)

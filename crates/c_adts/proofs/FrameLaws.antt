@@ -1,59 +1,70 @@
--- The three ways in which a call over a frame ends: it is refused before the frame is asked for, the frame is not taken, or it is.
+-- The two ways in which a call over a frame ends: it is refused before the frame is asked for, or what comes back and what is lent are
+-- those of the frame.
 -- Assumes nothing.
-use Prim.Native.Nat.{ℕ}
+use Prim.Native.Nat.{ℕ, _<_, _≤_}
 use mathlib.Core.Path.{_≡_, refl, sym, ap, _∙_}
-use mathlib.Core.List.{List}
+use mathlib.Core.List.{List, [], _∷_}
 use mathlib.Core.Bool.{Bool, true, false, _&&_}
 use native.Mathlib.Omega.{arith}
-use borrow.Author.Tests.{eq-eqb, ne-eqb, le-leb}
+use borrow.Author.Tests.{ne-eqb, le-leb}
 use lib.Dec.{leb}
-use lib.IntN.{ℤ}
 use lib.ListN.{length}
-use Rattle.bits.specs.Reader.{Answer, got, refused, pick}
-use Rattle.bits.specs.Bytes.{over}
+use Rattle.bits.specs.Reader.{Answer, got, refused}
 use Rattle.bits.specs.Packed.{bytesFor}
-use Rattle.bits.specs.Calls.{callRefusal}
+use Rattle.bits.specs.Payload.{inBuffer}
+use Rattle.bits.specs.Calls.{_or_, firstNumber, callTests, returned, returnedOf}
 use Rattle.bits.proofs.CallLaws.{call-room}
-use Rattle.channel.specs.Promise.{readingOf}
+use Rattle.channel.specs.Stream.{Stream}
+use Rattle.channel.specs.Promise.{Outputs, haveRoom, readingOf}
 use Rattle.channel.specs.declared.Reading.{Reading}
 use Rattle.adts.specs.Header.{Header}
-use Rattle.adts.specs.Promise.{headerAt, streamAt, framed, outputsFit, fitted}
+use Rattle.adts.specs.Promise.{headerAt, streamAt, framed, fitted}
 use Rattle.adts.specs.Promise.{ReadFramePromise as Read, UnwrapPromise as Unwrap}
 use Rattle.adts.specs.declared.Framed.{Framed}
-use Rattle.c_adts.specs.FrameBytes.{frameBytes, frameAnswerAfter}
-use Rattle.c_adts.specs.ReadFrame.{ReadFramePromise}
-use Rattle.c_adts.specs.UnwrapFrame.{UnwrapFramePromise}
+use Rattle.adts_laws.proofs.FramePlaces.{frame-placed, fitted-placed}
+use Rattle.c_channel.proofs.ChannelLaws.{returned-reading, reading-placed}
+use Rattle.c_adts.specs.FrameBytes.{frameAnswerAfter}
+use Rattle.c_adts.specs.ReadFrame as reading
+use Rattle.c_adts.specs.UnwrapFrame as unwrapping
 
 -- the reading of an answer, with or without a header
 reading-in : (h : Answer Header) (q : Reading) → framed h q .reading ≡ q
 reading-in (got x next) q = refl
 reading-in (refused n place) q = refl
 
-module _ (h : Answer Header) (q : Reading) (answer : List ℕ) (r : Framed) (e : r ≡ framed h q) where
-  number-in : r .reading .number ≡ q .number
-  number-in = ap (λ (z : Framed). z .reading .number) e ∙ ap (λ (z : Reading). z .number) (reading-in h q)
+module _ (h : Answer Header) (x : Answer Stream) (r : Framed) (e : r ≡ framed h (readingOf x)) where
+  reading-is : r .reading ≡ readingOf x
+  reading-is = ap (λ (z : Framed). z .reading) e ∙ reading-in h (readingOf x)
 
-  -- the number that comes back, and what the lent answer holds then
-  abbrev Told : ℕ → List ℕ → Type 0
-  Told n after = (n ≡ q .number) × (after ≡ frameAnswerAfter (framed h q) answer)
+  -- the place of a refusal leaves room for its number
+  short : ((n p : ℕ) → x ≡ refused n p → p ≤ 65528) → r .reading .place < 16777216
+  short f =
+      let same = ap (λ (y : Reading). y .place) reading-is in
+      let near = reading-placed 65528 x f in
+      omega arith
 
-  not-taken : (r .reading .number ≡ 0 → ⊥) → Told (r .reading .number) answer
-  not-taken k = (number-in, rw (sym e, ne-eqb (r .reading .number) 0 k))
+  module _ (answer : List ℕ) (n : ℕ) (en : n ≡ returned (r .reading .number) (r .reading .place)) where
+    -- what comes back, and what the lent answer holds then
+    abbrev Told : List ℕ → Type 0
+    Told after = (n ≡ returnedOf x) × (after ≡ frameAnswerAfter (framed h (readingOf x)) answer)
 
-  taken : (after : List ℕ) → after ≡ over answer 0 (frameBytes r) → r .reading .number ≡ 0 → Told 0 after
-  taken after f k = (sym k ∙ number-in, rw (sym e, eq-eqb (r .reading .number) 0 k) f)
+    comes-back : n ≡ returnedOf x
+    comes-back = en ∙ ap (λ (q : Reading). returned (q .number) (q .place)) reading-is ∙ sym (returned-reading x)
+
+    told : (after : List ℕ) → after ≡ frameAnswerAfter r answer → Told after
+    told after f = (comes-back, f ∙ rw e)
 
 -- before the frame is asked for: the start, and room for the answer
 module _ (file : List ℕ) (start : ℕ) (answer : List ℕ) where
   abbrev pub judged : ℕ
-  judged = callRefusal (length file) start (length file) 22 (length answer)
+  judged = firstNumber (callTests (inBuffer start (length file) (length file)) 22 (length answer))
 
   roomy : judged ≡ 0 → leb 22 (length answer) ≡ true
   roomy e = le-leb 22 (length answer) (call-room (length file) start (length file) 22 (length answer) e)
 
   -- where the answer has no room, there is none for all that a call lends
   module _ (room : Bool) (none : leb 22 (length answer) ≡ false → room ≡ false) (n : ℕ) (k : n ≡ 0 → ⊥) where
-    refused-by : (a b : Bool) → leb start (length file) ≡ a → leb 22 (length answer) ≡ b → n ≡ pick (a && true) (pick b 0 2) 1
+    refused-by : (a b : Bool) → leb start (length file) ≡ a → leb 22 (length answer) ≡ b → n ≡ firstNumber ((a && true) or 1 ∷ b or 2 ∷ [])
         → headerAt file start room ≡ refused n 0
     unfolding headerAt
     refused-by true true p q e = absurd (k e)
@@ -66,57 +77,56 @@ module _ (file : List ℕ) (start : ℕ) (answer : List ℕ) where
         refused-by (leb start (length file)) (leb 22 (length answer)) refl refl (rw all at e)
 
 -- the reader
-module _ (file : List ℕ) (start : ℕ) (lines : List ℤ) (factors books answer : List ℕ) where
-  abbrev fit : Bool
-  fit = outputsFit (length lines) (length factors) (length books)
+module _ (c : reading.Call) where
+  abbrev before : ℕ
+  before = judged (c .file) (c .start) (c .answer)
 
-  pub read-refused : (n : ℕ) → n ≡ judged file start answer → (n ≡ 0 → ⊥)
-      → ReadFramePromise file start lines factors books answer n lines factors books answer
+  pub read-refused : (n : ℕ) → n ≡ before → (n ≡ 0 → ⊥) → reading.ReadFramePromise c n (c .outputs) (c .answer)
   read-refused n e k =
-      let no = header-refused file start answer (leb 22 (length answer) && fit) (λ q. rw q) n k e in
-      rw no (refl, (refl, (refl, (refl, rw (ne-eqb n 0 k)))))
+      let room = leb 22 (length (c .answer)) && haveRoom (c .outputs) in
+      let no = header-refused (c .file) (c .start) (c .answer) room (λ q. rw q) n k e in
+      rw no (omega arith, (refl, rw (ne-eqb n 0 k)))
 
-  module _ (e : judged file start answer ≡ 0) (r : Framed) (l : List ℤ) (f b : List ℕ)
-      (p : Read file start lines factors books r l f b) where
+  module _ (r : Framed) (o : Outputs) (p : Read (record { file = c .file; start = c .start; outputs = c .outputs }) r o) where
     abbrev header : Answer Header
-    header = headerAt file start fit
+    header = headerAt (c .file) (c .start) (haveRoom (c .outputs))
 
-    abbrev reading : Reading
-    reading = readingOf (streamAt file start header)
+    abbrev stream : Answer Stream
+    stream = streamAt (c .file) (c .start) header
 
-    pub read-not-taken : (r .reading .number ≡ 0 → ⊥)
-        → ReadFramePromise file start lines factors books answer (r .reading .number) l f b answer
-    read-not-taken k =
-        let t = not-taken header reading answer r (p .0) k in
-        rw (roomy file start answer e) (t .0, (p .1 .0, (p .1 .1 .0, (p .1 .1 .1, t .1))))
+    pub read-short : r .reading .place < 16777216
+    read-short = short header stream r (p .0) (frame-placed (c .file) (c .start) (haveRoom (c .outputs)))
 
-    pub read-taken : (after : List ℕ) → after ≡ over answer 0 (frameBytes r) → r .reading .number ≡ 0
-        → ReadFramePromise file start lines factors books answer 0 l f b after
-    read-taken after g k =
-        let t = taken header reading answer r (p .0) after g k in
-        rw (roomy file start answer e) (t .0, (p .1 .0, (p .1 .1 .0, (p .1 .1 .1, t .1))))
+    module _ (e : before ≡ 0) (n : ℕ) (en : n ≡ returned (r .reading .number) (r .reading .place)) where
+      pub read-told : (after : List ℕ) → after ≡ frameAnswerAfter r (c .answer) → reading.ReadFramePromise c n o after
+      read-told after g =
+          let t = told header stream r (p .0) (c .answer) n en after g in
+          rw (roomy (c .file) (c .start) (c .answer) e) (t .0, (p .1, t .1))
 
 -- the unwrapping
-module _ (file : List ℕ) (start : ℕ) (out answer : List ℕ) where
-  pub unwrap-refused : (n : ℕ) → n ≡ judged file start answer → (n ≡ 0 → ⊥) → UnwrapFramePromise file start out answer n out answer
+module _ (c : unwrapping.Call) where
+  abbrev pub asked : ℕ
+  asked = judged (c .file) (c .start) (c .answer)
+
+  pub unwrap-refused : (n : ℕ) → n ≡ asked → (n ≡ 0 → ⊥) → unwrapping.UnwrapFramePromise c n (c .out) (c .answer)
   unwrap-refused n e k =
-      let no = header-refused file start answer (leb 22 (length answer)) (λ q. q) n k e in
-      rw no (refl, (refl, rw (ne-eqb n 0 k)))
+      let no = header-refused (c .file) (c .start) (c .answer) (leb 22 (length (c .answer))) (λ q. q) n k e in
+      rw no (omega arith, (refl, rw (ne-eqb n 0 k)))
 
-  module _ (e : judged file start answer ≡ 0) (r : Framed) (o : List ℕ) (p : Unwrap file start out r o) where
+  module _ (r : Framed) (o : List ℕ) (p : Unwrap (c .file) (c .start) (c .out) r o) where
     abbrev whole : Answer Header
-    whole = headerAt file start true
+    whole = headerAt (c .file) (c .start) true
 
-    abbrev cut : Reading
-    cut = readingOf (fitted bytesFor (length out) (streamAt file start whole))
+    abbrev cut : Answer Stream
+    cut = fitted bytesFor (length (c .out)) (streamAt (c .file) (c .start) whole)
 
-    pub unwrap-not-taken : (r .reading .number ≡ 0 → ⊥) → UnwrapFramePromise file start out answer (r .reading .number) o answer
-    unwrap-not-taken k =
-        let t = not-taken whole cut answer r (p .0) k in
-        rw (roomy file start answer e) (t .0, (p .1, t .1))
+    pub unwrap-short : r .reading .place < 16777216
+    unwrap-short =
+        short whole cut r (p .0)
+        (fitted-placed bytesFor (length (c .out)) 65528 (streamAt (c .file) (c .start) whole) (frame-placed (c .file) (c .start) true))
 
-    pub unwrap-taken : (after : List ℕ) → after ≡ over answer 0 (frameBytes r) → r .reading .number ≡ 0
-        → UnwrapFramePromise file start out answer 0 o after
-    unwrap-taken after g k =
-        let t = taken whole cut answer r (p .0) after g k in
-        rw (roomy file start answer e) (t .0, (p .1, t .1))
+    module _ (e : asked ≡ 0) (n : ℕ) (en : n ≡ returned (r .reading .number) (r .reading .place)) where
+      pub unwrap-told : (after : List ℕ) → after ≡ frameAnswerAfter r (c .answer) → unwrapping.UnwrapFramePromise c n o after
+      unwrap-told after g =
+          let t = told whole cut r (p .0) (c .answer) n en after g in
+          rw (roomy (c .file) (c .start) (c .answer) e) (t .0, (p .1, t .1))

@@ -1,78 +1,103 @@
--- The three ways in which a call that wraps a stream ends: it is refused before the stream is asked for, the stream is not taken, or it is.
+-- The two ways in which a call that wraps a stream ends: it is refused before the stream is asked for, or what comes back and what is lent
+-- are those of the wrapping.
 -- Assumes nothing.
-use Prim.Native.Nat.{ℕ}
+use Prim.Native.Nat.{ℕ, _<_}
 use mathlib.Core.Path.{_≡_, refl, sym, ap, _∙_}
 use mathlib.Core.List.{List}
 use mathlib.Core.Bool.{Bool, true, false}
-use borrow.Author.Tests.{eq-eqb, ne-eqb}
-use lib.Dec.{eqb, ltb}
+use native.Mathlib.Omega.{arith}
+use borrow.Author.Tests.{ne-eqb}
+use lib.Dec.{ltb}
 use lib.ListN.{length}
-use Rattle.bits.specs.Reader.{Answer, refused, pick}
-use Rattle.bits.specs.Bytes.{wordOf, over}
-use Rattle.bits.specs.Payload.{range}
-use Rattle.bits.specs.Calls.{callRefusal}
+use Rattle.bits.specs.Reader.{Answer, got, refused, pick}
+use Rattle.bits.specs.Bytes.{wordOf}
+use Rattle.bits.specs.Payload.{isThere, bytesIn}
+use Rattle.bits.specs.Calls.{firstNumber, callTests, returned, returnedOf, answered}
+use Rattle.bits.proofs.CallLaws.{first-refused, first-passed}
 use Rattle.channel.specs.Stream.{Stream}
-use Rattle.channel.specs.Promise.{channelCallRefusal}
-use Rattle.c_channel.proofs.ChannelLaws.{narrowed, large-refused}
+use Rattle.channel.specs.Promise.{channel, readingOf}
+use Rattle.channel.proofs.PromiseLaws.{channel-placed}
 use Rattle.adts.specs.Wrapping.{frameLength}
 use Rattle.adts.specs.Promise.{fitted, wrappable, wrappedOf, wrappedBytes, WrapPromise}
 use Rattle.adts.specs.declared.Wrapped.{Wrapped}
-use Rattle.c_adts.specs.WrapStream.{wrapCall, WrapStreamPromise}
+use Rattle.adts_laws.proofs.FramePlaces.{fitted-placed}
+use Rattle.c_channel.proofs.ChannelLaws.{narrowed, large-refused, reading-placed}
+use Rattle.c_adts.specs.WrapStream.{Call, wrapCall, WrapStreamPromise}
 
-module _ (buf : List ℕ) (start end index : ℕ) (out answer : List ℕ) where
+-- a wrapping's number and place are a reading's, and come back as they do
+returned-wrapped : (x : Answer Stream) → returnedOf x ≡ returned (wrappedOf x .number) (wrappedOf x .place)
+returned-wrapped (got a bits) = refl
+returned-wrapped (refused n place) = refl
+
+same-place : (x : Answer Stream) → wrappedOf x .place ≡ readingOf x .place
+same-place (got a bits) = refl
+same-place (refused n place) = refl
+
+module _ (c : Call) where
   abbrev asked : ℕ → Answer Stream
-  asked i = wrappable buf start end i (length out)
+  asked i = wrappable (c .payload) i (length (c .out))
 
   -- an index that was narrowed changes nothing: one that is too large is refused in either form
-  narrowed-asked : asked (pick (ltb index 256) index 0) ≡ asked index
+  narrowed-asked : asked (pick (ltb (c .index) 256) (c .index) 0) ≡ asked (c .index)
   unfolding wrappable
-  narrowed-asked = ap (fitted frameLength (length out)) (narrowed buf start end index 1024 120 120)
+  narrowed-asked = ap (fitted frameLength (length (c .out))) (narrowed (c .payload) (c .index) true)
 
-  large-asked : ltb index 256 ≡ false → asked index ≡ refused (channelCallRefusal (length buf) start end index 1024 120 120) 0
+  bytes-by : (b : Bool) → ltb (c .index) 256 ≡ b
+      → wrappedBytes (pick b (c .index) 0) (bytesIn (c .payload)) (asked (c .index)) (c .out)
+      ≡ wrappedBytes (c .index) (bytesIn (c .payload)) (asked (c .index)) (c .out)
   unfolding wrappable
-  large-asked e = rw (large-refused buf start end index 1024 120 120 e)
-
-  bytes-by : (b : Bool) → ltb index 256 ≡ b
-      → wrappedBytes (pick b index 0) (range buf start end) (asked index) out ≡ wrappedBytes index (range buf start end) (asked index) out
   bytes-by true e = refl
-  bytes-by false e = rw (large-asked e)
+  bytes-by false e = rw (large-refused (c .payload) (c .index) true e) (never (isThere (c .payload)))
+    where
+      never : (there : Bool)
+          → wrappedBytes 0 (bytesIn (c .payload)) (fitted frameLength (length (c .out)) (pick there (refused 3 0) (refused 1 0))) (c .out)
+          ≡ wrappedBytes (c .index) (bytesIn (c .payload)) (fitted frameLength (length (c .out)) (pick there (refused 3 0) (refused 1 0)))
+          (c .out)
+      never true = refl
+      never false = refl
 
-  stopped : (n : ℕ) → n ≡ callRefusal (length buf) start end 4 (length answer) → eqb n 0 ≡ false
-      → wrapCall buf start end index (length out) (length answer) ≡ refused n 0
+  abbrev pub before : ℕ
+  before = firstNumber (callTests (isThere (c .payload)) 4 (length (c .answer)))
+
+  pub wrap-refused : (n : ℕ) → n ≡ before → (n ≡ 0 → ⊥) → WrapStreamPromise c n (c .out) (c .answer)
   unfolding wrapCall
-  stopped n e h = rw (sym e, h)
-
-  pub wrap-refused : (n : ℕ) → n ≡ callRefusal (length buf) start end 4 (length answer) → (n ≡ 0 → ⊥)
-      → WrapStreamPromise buf start end index out answer n out answer
   wrap-refused n e k =
-      let no : eqb n 0 ≡ false = ne-eqb n 0 k in
-      rw (stopped n e no) (refl, (refl, rw no))
+      let tests = callTests (isThere (c .payload)) 4 (length (c .answer)) in
+      let r = first-refused tests (λ m. refused m 0) (asked (c .index)) (rw e at k) in
+      rw (r, ← e, ne-eqb n 0 k) (omega arith, (refl, refl))
 
   -- the stream is asked for with an index that was narrowed
-  module _ (e : callRefusal (length buf) start end 4 (length answer) ≡ 0) (i : ℕ) (ei : i ≡ pick (ltb index 256) index 0) (r : Wrapped)
-      (o : List ℕ) (p : WrapPromise buf start end i out r o) where
-    called : wrapCall buf start end index (length out) (length answer) ≡ asked index
-    unfolding wrapCall
-    called = rw e
-
-    same : asked i ≡ asked index
+  module _ (i : ℕ) (ei : i ≡ pick (ltb (c .index) 256) (c .index) 0) (r : Wrapped) (o : List ℕ)
+      (p : WrapPromise (record { payload = c .payload; index = i; out = c .out }) r o) where
+    same : asked i ≡ asked (c .index)
     same = ap asked ei ∙ narrowed-asked
 
-    wrapped : r ≡ wrappedOf (asked index)
+    wrapped : r ≡ wrappedOf (asked (c .index))
     wrapped = p .0 ∙ ap wrappedOf same
 
-    framed : o ≡ wrappedBytes index (range buf start end) (asked index) out
+    framed : o ≡ wrappedBytes (c .index) (bytesIn (c .payload)) (asked (c .index)) (c .out)
     framed =
-        p .1 ∙ ap (λ (z : Answer Stream). wrappedBytes i (range buf start end) z out) same
-        ∙ ap (λ (z : ℕ). wrappedBytes z (range buf start end) (asked index) out) ei
-        ∙ bytes-by (ltb index 256) refl
+        p .1 ∙ ap (λ (z : Answer Stream). wrappedBytes i (bytesIn (c .payload)) z (c .out)) same
+        ∙ ap (λ (z : ℕ). wrappedBytes z (bytesIn (c .payload)) (asked (c .index)) (c .out)) ei
+        ∙ bytes-by (ltb (c .index) 256) refl
 
-    number-in : r .number ≡ wrappedOf (asked index) .number
-    number-in = ap (λ (z : Wrapped). z .number) wrapped
+    -- the place of a refusal leaves room for its number
+    pub wrap-short : r .place < 16777216
+    unfolding wrappable
+    wrap-short =
+        let is = ap (λ (z : Wrapped). z .place) wrapped ∙ same-place (asked (c .index)) in
+        let near = reading-placed 38008 (asked (c .index))
+        (fitted-placed frameLength (length (c .out)) 38008 (channel (c .payload) (c .index) true)
+        (channel-placed (c .payload) (c .index) true)) in
+        omega arith
 
-    pub wrap-not-taken : (r .number ≡ 0 → ⊥) → WrapStreamPromise buf start end index out answer (r .number) o answer
-    wrap-not-taken k = rw called (number-in, (framed, rw (sym wrapped, ne-eqb (r .number) 0 k)))
+    module _ (e : before ≡ 0) (n : ℕ) (en : n ≡ returned (r .number) (r .place)) where
+      called : wrapCall c ≡ asked (c .index)
+      unfolding wrapCall
+      called = first-passed (callTests (isThere (c .payload)) 4 (length (c .answer))) (λ m. refused m 0) (asked (c .index)) tt e
 
-    pub wrap-taken : (after : List ℕ) → after ≡ over answer 0 (wordOf (r .length)) → r .number ≡ 0
-        → WrapStreamPromise buf start end index out answer 0 o after
-    wrap-taken after g k = rw called (sym k ∙ number-in, (framed, rw (sym wrapped, eq-eqb (r .number) 0 k) g))
+      comes-back : n ≡ returnedOf (asked (c .index))
+      comes-back = en ∙ ap (λ (z : Wrapped). returned (z .number) (z .place)) wrapped ∙ sym (returned-wrapped (asked (c .index)))
+
+      pub wrap-told : (after : List ℕ) → after ≡ answered (r .number) (wordOf (r .length)) (c .answer) → WrapStreamPromise c n o after
+      wrap-told after g = rw called (comes-back, (framed, g ∙ rw wrapped))

@@ -1,15 +1,18 @@
 // Frames of an ADTS file, answered in bytes.
 ghost use mathlib.Core.Path.{_≡_};
-ghost use Prim.Native.Nat.{_≤_};
+ghost use Prim.Native.Nat.{_≤_, _<_};
 ghost use lib.ListN.{length};
 ghost use Rattle.bits.specs.Bytes.{wordOf, over};
-ghost use Rattle.c_adts.specs.FrameBytes.{frameBytes};
+ghost use Rattle.bits.specs.Calls.{returned, answered};
+ghost use Rattle.c_adts.specs.FrameBytes.{frameBytes, frameAnswerAfter};
 ghost use Rattle.c_adts.specs.ReadFrame.{ReadFramePromise};
 ghost use Rattle.c_adts.specs.UnwrapFrame.{UnwrapFramePromise};
 ghost use Rattle.c_adts.specs.WrapStream.{WrapStreamPromise};
 use adts::Framed;
+use adts::Wrapped;
 use bits::bytes;
 use bits::calls::call_refusal;
+use bits::calls::returned;
 use c_channel::narrow;
 use c_channel::put_reading;
 
@@ -25,6 +28,20 @@ fn put_framed(answer: &mut [u8], r: Framed)
     bytes::put(answer, 21, &last);
 }
 
+// What comes back of a frame, whose numbers are put in the lent answer where it is accepted.
+fn told_frame(answer: &mut [u8], r: Framed) -> u32
+    requires { ⌜ (22 ≤ length (now answer)) × (r .reading .place < 16777216) ⌝ }
+    ensures { λ n. ⌜ (n ≡ returned (r .reading .number) (r .reading .place))
+        × (now (answer .exit) ≡ frameAnswerAfter r (now (answer .entry))) ⌝ }
+{
+    let reading = r.reading;
+    if reading.number != 0 {
+        return returned(reading.number, reading.place);
+    }
+    put_framed(answer, r);
+    returned(reading.number, reading.place)
+}
+
 // The frame at a byte of a file: the lent outputs and the lent answer get its numbers.
 #[no_mangle]
 pub extern "C" fn oarcradler_read_frame(
@@ -35,20 +52,21 @@ pub extern "C" fn oarcradler_read_frame(
     books: &mut [u8],
     answer: &mut [u8],
 ) -> u32
-    ensures { λ r. ⌜ ReadFramePromise (now (file .entry)) start
-        (now (lines .entry)) (now (factors .entry)) (now (books .entry)) (now (answer .entry))
-        r (now (lines .exit)) (now (factors .exit)) (now (books .exit)) (now (answer .exit)) ⌝ }
+    ensures { λ r. ⌜ ReadFramePromise
+        (record {
+          file = now (file .entry);
+          start = start;
+          outputs = record { lines = now (lines .entry); factors = now (factors .entry); books = now (books .entry) };
+          answer = now (answer .entry);
+        })
+        r (record { lines = now (lines .exit); factors = now (factors .exit); books = now (books .exit) }) (now (answer .exit)) ⌝ }
 {
     let number = call_refusal(file.len(), start, file.len(), 22, answer.len());
     if number != 0 {
         return number;
     }
     let r = adts::read_frame(file, start, lines, factors, books);
-    if r.reading.number != 0 {
-        return r.reading.number as u32;
-    }
-    put_framed(answer, r);
-    0
+    told_frame(answer, r)
 }
 
 // The frame at a byte of a file: its channel stream is put at the front of a lent buffer, and the lent answer gets its numbers.
@@ -59,7 +77,8 @@ pub extern "C" fn oarcradler_unwrap_frame(
     out: &mut [u8],
     answer: &mut [u8],
 ) -> u32
-    ensures { λ r. ⌜ UnwrapFramePromise (now (file .entry)) start (now (out .entry)) (now (answer .entry))
+    ensures { λ r. ⌜ UnwrapFramePromise
+        (record { file = now (file .entry); start = start; out = now (out .entry); answer = now (answer .entry) })
         r (now (out .exit)) (now (answer .exit)) ⌝ }
 {
     let number = call_refusal(file.len(), start, file.len(), 22, answer.len());
@@ -67,11 +86,7 @@ pub extern "C" fn oarcradler_unwrap_frame(
         return number;
     }
     let r = adts::unwrap(file, start, out);
-    if r.reading.number != 0 {
-        return r.reading.number as u32;
-    }
-    put_framed(answer, r);
-    0
+    told_frame(answer, r)
 }
 
 // The length of a frame is put at the front of a lent answer.
@@ -81,6 +96,19 @@ fn put_length(answer: &mut [u8], size: usize)
 {
     let word = bytes::word_of(size);
     bytes::put(answer, 0, &word);
+}
+
+// What comes back of a wrapping, whose length is put in the lent answer where it is accepted.
+fn told_wrapping(answer: &mut [u8], r: Wrapped) -> u32
+    requires { ⌜ (4 ≤ length (now answer)) × (r .place < 16777216) ⌝ }
+    ensures { λ n. ⌜ (n ≡ returned (r .number) (r .place))
+        × (now (answer .exit) ≡ answered (r .number) (wordOf (r .length)) (now (answer .entry))) ⌝ }
+{
+    if r.number != 0 {
+        return returned(r.number, r.place);
+    }
+    put_length(answer, r.length);
+    returned(r.number, r.place)
 }
 
 // The channel stream in the bytes from start to end of a buffer, for a sampling index, is put as one frame at the front of a lent buffer,
@@ -94,7 +122,13 @@ pub extern "C" fn oarcradler_wrap_stream(
     out: &mut [u8],
     answer: &mut [u8],
 ) -> u32
-    ensures { λ r. ⌜ WrapStreamPromise (now (buf .entry)) start end index (now (out .entry)) (now (answer .entry))
+    ensures { λ r. ⌜ WrapStreamPromise
+        (record {
+          payload = record { bytes = now (buf .entry); start = start; end = end };
+          index = index;
+          out = now (out .entry);
+          answer = now (answer .entry);
+        })
         r (now (out .exit)) (now (answer .exit)) ⌝ }
 {
     let number = call_refusal(buf.len(), start, end, 4, answer.len());
@@ -102,9 +136,5 @@ pub extern "C" fn oarcradler_wrap_stream(
         return number;
     }
     let r = adts::wrap(buf, start, end, narrow(index), out);
-    if r.number != 0 {
-        return r.number as u32;
-    }
-    put_length(answer, r.length);
-    0
+    told_wrapping(answer, r)
 }

@@ -1,26 +1,25 @@
 -- An image's header, and the part that a payload is, each answered as two words.
 use Prim.Native.Nat.{ℕ}
 use mathlib.Core.Path.{_≡_}
-use mathlib.Core.List.{List, _++_}
+use mathlib.Core.List.{List, [], _∷_, _++_}
 use lib.Dec.{leb}
 use lib.ListN.{length}
-use Rattle.bits.specs.Reader.{pick}
 use Rattle.image.specs.Image.{headerOf, partOf}
 use Rattle.bits.specs.Bytes.{wordOf}
-use Rattle.bits.specs.Calls.{answered}
+use Rattle.bits.specs.Calls.{_or_, firstRefusal, answered}
 
--- 2, then the header's own
+-- whether the answer fits is judged before the header
 unfoldable pub imageNumber : List ℕ → ℕ → ℕ
-imageNumber image room = pick (leb 8 room) (headerOf image .number) 2
+imageNumber image room = firstRefusal (leb 8 room or 2 ∷ []) (λ n. n) (headerOf image .number)
 
 -- the payload count and the sampling index
 unfoldable pub imageAnswerAfter : List ℕ → List ℕ → List ℕ
 imageAnswerAfter image answer =
     answered (imageNumber image (length answer)) (wordOf (headerOf image .count) ++ wordOf (headerOf image .index)) answer
 
--- 2, then the part's own
+-- whether the answer fits is judged before the part
 unfoldable pub partNumber : List ℕ → ℕ → ℕ → ℕ
-partNumber image k room = pick (leb 8 room) (partOf image k .number) 2
+partNumber image k room = firstRefusal (leb 8 room or 2 ∷ []) (λ n. n) (partOf image k .number)
 
 -- where the payload starts and where it ends
 unfoldable pub partAnswerAfter : List ℕ → ℕ → List ℕ → List ℕ

@@ -1,30 +1,26 @@
 -- What is known where nothing was refused before a stereo payload's first bit.
 -- Assumes nothing.
-use Prim.Native.Nat.{ℕ, zero, suc, _≤_}
-use mathlib.Core.Path.{_≡_, refl}
-use mathlib.Core.List.{List}
+use Prim.Native.Nat.{ℕ, _≤_}
+use mathlib.Core.Path.{_≡_}
+use mathlib.Core.List.{List, [], _∷_}
 use mathlib.Core.Bool.{Bool, true, false}
-use native.Mathlib.Omega.{arith}
-use borrow.Author.Tests.{ne-eqb}
-use lib.Dec.{eqb}
-use Rattle.bits.specs.Reader.{pick}
+use borrow.Author.Tests.{leb-true}
 use Rattle.c_layout.specs.StateBytes.{soundBytes}
-use Rattle.bits.specs.Calls.{callRefusal}
-use Rattle.bits.proofs.CallLaws.{call-room, call-range}
-use Rattle.c_stereo.specs.ReadStereo.{stereoCallRefusal}
+use Rattle.bits.specs.Payload.{inBuffer}
+use Rattle.bits.specs.Calls.{_or_, firstNumber}
+use Rattle.bits.proofs.CallLaws.{all-passed, range-in}
+use Rattle.c_stereo.specs.ReadStereo.{stereoTests}
 
--- a second test after a first refusal's number
-after : (j : ℕ) (b : Bool) → pick (eqb j 0) (pick b 0 4) j ≡ 0 → (j ≡ 0) × (b ≡ true)
-after zero true e = (refl, refl)
-after zero false e = absurd (omega arith)
-after (suc j) b e =
-    let none : suc j ≡ 0 = rw (ne-eqb (suc j) 0 (λ z. absurd (omega arith))) at e in
-    absurd (omega arith)
-
-pub stereo-passed : (s : List ℕ) (size start end room : ℕ) → stereoCallRefusal s size start end room ≡ 0
+pub stereo-passed : (s : List ℕ) (size start end room : ℕ) → firstNumber (stereoTests (inBuffer start end size) room s) ≡ 0
     → (582 ≤ room) × (soundBytes s ≡ true) × (start ≤ end) × (end ≤ size)
-unfolding stereoCallRefusal
 stereo-passed s size start end room e =
-    let p = after (callRefusal size start end 582 room) (soundBytes s) e in
-    let r = call-range size start end 582 room (p .0) in
-    (call-room size start end 582 room (p .0), p .1, r .0, r .1)
+    let p = all-passed (stereoTests (inBuffer start end size) room s) tt e in
+    let r = range-in size start end (p .0) in
+    (leb-true 582 room (p .1 .0), p .1 .1 .0, r .0, r .1)
+
+-- a refusal stands whatever is judged after it
+pub still-refused : (there room sound : Bool) (n : ℕ) → n ≡ firstNumber (there or 1 ∷ room or 2 ∷ []) → (n ≡ 0 → ⊥)
+    → n ≡ firstNumber (there or 1 ∷ room or 2 ∷ sound or 4 ∷ [])
+still-refused true true sound n e h = absurd (h e)
+still-refused true false sound n e h = e
+still-refused false room sound n e h = e

@@ -1,41 +1,44 @@
--- The three ways in which a call of the stereo reader ends.
+-- The two ways in which a call of the stereo reader ends: it is refused before any bit, or what comes back and what is lent are those of
+-- the reading.
 -- Assumes nothing.
-use Prim.Native.Nat.{ℕ}
-use mathlib.Core.Path.{_≡_, sym}
+use Prim.Native.Nat.{ℕ, _<_}
+use mathlib.Core.Path.{_≡_, sym, ap, _∙_}
 use mathlib.Core.List.{List}
-use mathlib.Core.Bool.{true, false}
-use borrow.Author.Tests.{eq-eqb, ne-eqb}
-use lib.Dec.{eqb}
-use lib.ListN.{length, set}
-use Rattle.bits.specs.Bytes.{over}
-use Rattle.c_layout.specs.StateBytes.{stateBytes}
+use native.Mathlib.Omega.{arith}
+use Rattle.bits.specs.Payload.{bytesIn}
+use Rattle.bits.specs.Calls.{firstNumber, returned, answered}
+use Rattle.bits.proofs.CallLaws.{first-refused, first-passed}
+use Rattle.stereo_reader.proofs.ReadingLaws.{read-placed}
+use Rattle.stereo_reader.specs.declared.Reading.{Reading}
+use Rattle.c_layout.specs.StateBytes.{stateAt}
 use Rattle.c_layout.specs.ContentsBytes.{answerBytes}
-use Rattle.c_stereo.specs.ReadStereo.{stereoCallRefusal, stereoReading, stereoNumber, stereoStateAfter, stereoAnswerAfter}
+use Rattle.c_stereo.specs.ReadStereo.{Call, testsOf, stereoReading, stereoReturned, movedOn, stereoStateAfter, stereoAnswerAfter}
+use Rattle.c_stereo.specs.ReadStereo.{ReadStereoPromise}
 
-module _ (s buf : List ℕ) (start end : ℕ) (answer : List ℕ) where
-  -- the number that comes back, and what the lent state and the lent answer hold then
-  abbrev pub Ends : ℕ → List ℕ → List ℕ → Type 0
-  Ends n state told =
-      (n ≡ stereoNumber s buf start end (length answer))
-      × ((state ≡ stereoStateAfter s buf start end (length answer)) × (told ≡ stereoAnswerAfter s buf start end answer))
-
-  pub call-refused : (n : ℕ) → n ≡ stereoCallRefusal s (length buf) start end (length answer) → (n ≡ 0 → ⊥) → Ends n s answer
-  unfolding stereoNumber stereoStateAfter stereoAnswerAfter
+module _ (c : Call) where
+  pub call-refused : (n : ℕ) → n ≡ firstNumber (testsOf c) → (n ≡ 0 → ⊥) → ReadStereoPromise c n (c .state) (c .answer)
+  unfolding stereoReturned stereoStateAfter stereoAnswerAfter
   call-refused n e h =
-      let no : eqb (stereoCallRefusal s (length buf) start end (length answer)) 0 ≡ false = rw (sym e) (ne-eqb n 0 h) in
-      (rw no e, (rw no, rw (no, no)))
+      let told : firstNumber (testsOf c) ≡ 0 → ⊥ = rw e at h in (
+        e ∙ sym (first-refused (testsOf c) (λ m. m) _ told),
+        (sym (first-refused (testsOf c) (λ m. c .state) _ told), sym (first-refused (testsOf c) (λ m. c .answer) _ told)),
+      )
 
-  module _ (e : stereoCallRefusal s (length buf) start end (length answer) ≡ 0) where
-    pub payload-refused : (stereoReading s buf start end .number ≡ 0 → ⊥) → Ends (stereoReading s buf start end .number) (set s 5 0) answer
-    unfolding stereoNumber stereoStateAfter stereoAnswerAfter
-    payload-refused h =
-        let no : eqb (stereoReading s buf start end .number) 0 ≡ false = ne-eqb _ 0 h in
-        (rw e, (rw (e, no), rw (e, no)))
+  -- the place of a refusal leaves room for its number
+  pub place-short : (r : Reading) → r ≡ stereoReading c → r .place < 16777216
+  place-short r er =
+      let same = ap (λ (y : Reading). y .place) er in
+      omega (arith, read-placed (stateAt (c .state)) (bytesIn (c .payload)))
 
-    pub accepted : stereoReading s buf start end .number ≡ 0
-        → Ends 0 (over s 0 (stateBytes (stereoReading s buf start end .state)))
-        (over answer 0 (answerBytes (stereoReading s buf start end .bits) (stereoReading s buf start end .contents)))
-    unfolding stereoNumber stereoStateAfter stereoAnswerAfter
-    accepted h =
-        let yes : eqb (stereoReading s buf start end .number) 0 ≡ true = eq-eqb _ 0 h in
-        (rw e (sym h), (rw (e, yes), rw (e, yes)))
+  -- past the tests, what comes back and what is lent are those of the reading
+  module _ (e : firstNumber (testsOf c) ≡ 0) (r : Reading) (er : r ≡ stereoReading c) where
+    pub read-told : (n : ℕ) (state told : List ℕ) → n ≡ returned (r .number) (r .place) → state ≡ movedOn (c .state) r
+        → told ≡ answered (r .number) (answerBytes (r .bits) (r .contents)) (c .answer) → ReadStereoPromise c n state told
+    unfolding stereoReturned stereoStateAfter stereoAnswerAfter
+    read-told n state told en es et = (
+      en ∙ rw er (sym (first-passed (testsOf c) (λ m. m) _ tt e)),
+      (
+        es ∙ rw er (sym (first-passed (testsOf c) (λ m. c .state) _ tt e)),
+        et ∙ rw er (sym (first-passed (testsOf c) (λ m. c .answer) _ tt e)),
+      ),
+    )

@@ -1,50 +1,56 @@
 -- A stereo payload in a range of a buffer, read from the state that bytes stand for.
 use Prim.Native.Nat.{ℕ}
 use mathlib.Core.Path.{_≡_}
-use mathlib.Core.List.{List}
-use lib.Dec.{eqb}
+use mathlib.Core.List.{List, [], _∷_}
+use mathlib.Core.Bool.{Bool}
+use lib.Dec.{eqb, leb}
 use lib.ListN.{length}
 use Rattle.bits.specs.Reader.{pick}
-use Rattle.bits.specs.Payload.{range}
+use Rattle.bits.specs.Payload.{Range, isThere, bytesIn}
 use Rattle.stereo_reader.specs.Reading.{readBytes}
 use Rattle.stereo_reader.specs.declared.Reading.{Reading}
 use Rattle.bits.specs.Bytes.{over}
 use Rattle.c_layout.specs.StateBytes.{stateBytes, stateAt, soundBytes}
 use Rattle.c_layout.specs.ContentsBytes.{answerBytes}
-use Rattle.bits.specs.Calls.{callRefusal, answered}
+use Rattle.bits.specs.Calls.{Test, _or_, firstRefusal, returned, answered}
 use Rattle.c_stereo.specs.StateCalls.{lostBytes}
 
--- what is judged before any bit: 1, 2, 4; 0 where all is well
-unfoldable pub stereoCallRefusal : List ℕ → ℕ → ℕ → ℕ → ℕ → ℕ
-stereoCallRefusal s size start end room =
-    pick (eqb (callRefusal size start end 582 room) 0) (pick (soundBytes s) 0 4) (callRefusal size start end 582 room)
+-- what a call is given: the lent state, where the payload stands, and the lent answer
+pub record Call : Type 0 where
+  pub state : List ℕ
+  pub payload : Range
+  pub answer : List ℕ
+
+-- what is judged before any bit: the range, whether the answer fits, and the state
+abbrev pub stereoTests : Bool → ℕ → List ℕ → List Test
+stereoTests there room s = there or 1 ∷ leb 582 room or 2 ∷ soundBytes s or 4 ∷ []
+
+abbrev pub testsOf : Call → List Test
+testsOf c = stereoTests (isThere (c .payload)) (length (c .answer)) (c .state)
 
 -- the reader's own reading
-abbrev pub stereoReading : List ℕ → List ℕ → ℕ → ℕ → Reading
-stereoReading s buf start end = readBytes (stateAt s) (range buf start end)
+abbrev pub stereoReading : Call → Reading
+stereoReading c = readBytes (stateAt (c .state)) (bytesIn (c .payload))
 
--- the number that comes back
-unfoldable pub stereoNumber : List ℕ → List ℕ → ℕ → ℕ → ℕ → ℕ
-stereoNumber s buf start end room =
-    pick (eqb (stereoCallRefusal s (length buf) start end room) 0) (stereoReading s buf start end .number)
-    (stereoCallRefusal s (length buf) start end room)
+-- what comes back
+unfoldable pub stereoReturned : Call → ℕ
+stereoReturned c = firstRefusal (testsOf c) (λ n. n) (returned (stereoReading c .number) (stereoReading c .place))
 
--- the state afterwards: the next one where the payload is accepted; the mark out of step and no other byte touched where
--- the payload is refused; untouched where the call is
-unfoldable pub stereoStateAfter : List ℕ → List ℕ → ℕ → ℕ → ℕ → List ℕ
-stereoStateAfter s buf start end room =
-    pick (eqb (stereoCallRefusal s (length buf) start end room) 0)
-    (pick (eqb (stereoReading s buf start end .number) 0) (over s 0 (stateBytes (stereoReading s buf start end .state))) (lostBytes s))
-    s
+-- the state after a reading: the next one where the payload is accepted, else the mark out of step and no other byte touched
+abbrev pub movedOn : List ℕ → Reading → List ℕ
+movedOn s r = pick (eqb (r .number) 0) (over s 0 (stateBytes (r .state))) (lostBytes s)
+
+-- the state afterwards: untouched where the call is refused before any bit
+unfoldable pub stereoStateAfter : Call → List ℕ
+stereoStateAfter c = firstRefusal (testsOf c) (λ n. c .state) (movedOn (c .state) (stereoReading c))
 
 -- the answer afterwards
-unfoldable pub stereoAnswerAfter : List ℕ → List ℕ → ℕ → ℕ → List ℕ → List ℕ
-stereoAnswerAfter s buf start end answer =
-    answered (stereoNumber s buf start end (length answer))
-    (answerBytes (stereoReading s buf start end .bits) (stereoReading s buf start end .contents)) answer
+unfoldable pub stereoAnswerAfter : Call → List ℕ
+stereoAnswerAfter c =
+    firstRefusal (testsOf c) (λ n. c .answer)
+    (answered (stereoReading c .number) (answerBytes (stereoReading c .bits) (stereoReading c .contents)) (c .answer))
 
--- everything that a call gives: the number that comes back, and the state and the answer afterwards
-abbrev pub ReadStereoPromise : List ℕ → List ℕ → ℕ → ℕ → List ℕ → ℕ → List ℕ → List ℕ → Type 0
-ReadStereoPromise s buf start end answer r s′ answer′ =
-    (r ≡ stereoNumber s buf start end (length answer))
-    × ((s′ ≡ stereoStateAfter s buf start end (length answer)) × (answer′ ≡ stereoAnswerAfter s buf start end answer))
+-- everything that a call gives: what comes back, and the state and the answer afterwards
+abbrev pub ReadStereoPromise : Call → ℕ → List ℕ → List ℕ → Type 0
+ReadStereoPromise c r state′ answer′ =
+    (r ≡ stereoReturned c) × ((state′ ≡ stereoStateAfter c) × (answer′ ≡ stereoAnswerAfter c))

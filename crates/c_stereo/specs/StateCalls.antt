@@ -1,17 +1,16 @@
 -- A fresh state, and a payload reported missing.
 use Prim.Native.Nat.{ℕ}
 use mathlib.Core.Path.{_≡_}
-use mathlib.Core.List.{List}
+use mathlib.Core.List.{List, [], _∷_}
 use lib.Dec.{leb}
 use lib.ListN.{length, set}
-use Rattle.bits.specs.Reader.{pick}
 use Rattle.stereo.specs.State.{fresh}
 use Rattle.c_layout.specs.StateBytes.{stateBytes, soundBytes}
-use Rattle.bits.specs.Calls.{answered}
+use Rattle.bits.specs.Calls.{_or_, firstRefusal, firstNumber, answered}
 
 -- 2 where a state does not fit
 abbrev pub freshNumber : List ℕ → ℕ
-freshNumber s = pick (leb 146 (length s)) 0 2
+freshNumber s = firstNumber (leb 146 (length s) or 2 ∷ [])
 
 abbrev pub freshAfter : List ℕ → List ℕ
 freshAfter s = answered (freshNumber s) (stateBytes fresh) s
@@ -22,10 +21,10 @@ lostBytes s = set s 5 0
 
 -- refused only with 4
 abbrev pub missingNumber : List ℕ → ℕ
-missingNumber s = pick (soundBytes s) 0 4
+missingNumber s = firstNumber (soundBytes s or 4 ∷ [])
 
 abbrev pub missingAfter : List ℕ → List ℕ
-missingAfter s = pick (soundBytes s) (lostBytes s) s
+missingAfter s = firstRefusal (soundBytes s or 4 ∷ []) (λ n. s) (lostBytes s)
 
 -- what is promised of both: the number that comes back, and the lent state afterwards
 abbrev pub FreshStatePromise : List ℕ → ℕ → List ℕ → Type 0

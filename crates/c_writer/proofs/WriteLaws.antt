@@ -1,50 +1,55 @@
 -- The three ways in which a call of the stereo writer ends.
 -- Assumes nothing.
 use Prim.Native.Nat.{ℕ}
-use mathlib.Core.Path.{_≡_, sym}
+use mathlib.Core.Path.{_≡_, sym, _∙_}
 use mathlib.Core.List.{List}
 use mathlib.Core.Bool.{true, false}
 use borrow.Author.Tests.{eq-eqb, ne-eqb}
 use lib.Dec.{eqb}
-use lib.ListN.{length}
 use Rattle.stereo_writer.specs.Writing.{writtenOver}
 use Rattle.bits.specs.Bytes.{wordOf, over}
+use Rattle.bits.specs.Calls.{firstNumber}
+use Rattle.bits.proofs.CallLaws.{first-refused, first-passed}
 use Rattle.c_layout.specs.StateBytes.{stateBytes, stateAt}
 use Rattle.c_layout.specs.ContentsBytes.{contentsAt}
-use Rattle.c_writer.specs.WriteStereo.{writeCallRefusal, stereoWriting, writeNumber, writeStateAfter, writeOutputAfter}
-use Rattle.c_writer.specs.WriteStereo.{writeAnswerAfter}
+use Rattle.c_writer.specs.WriteStereo.{Call, testsOf, stereoWriting, writeNumber, writeStateAfter, writeOutputAfter}
+use Rattle.c_writer.specs.WriteStereo.{writeAnswerAfter, WriteStereoPromise}
 
-module _ (s contents out answer : List ℕ) where
-  abbrev room : ℕ
-  room = length answer
-
-  -- the number that comes back, and what the lent state, output and answer hold then
-  abbrev pub Ends : ℕ → List ℕ → List ℕ → List ℕ → Type 0
-  Ends n state written told =
-      (n ≡ writeNumber s contents out room)
-      × ((state ≡ writeStateAfter s contents out room)
-      × ((written ≡ writeOutputAfter s contents out room) × (told ≡ writeAnswerAfter s contents out answer)))
-
-  pub call-refused : (n : ℕ) → n ≡ writeCallRefusal s (length contents) room → (n ≡ 0 → ⊥) → Ends n s out answer
+module _ (c : Call) where
+  pub call-refused : (n : ℕ) → n ≡ firstNumber (testsOf c) → (n ≡ 0 → ⊥) → WriteStereoPromise c n (c .state) (c .out) (c .answer)
   unfolding writeNumber writeStateAfter writeOutputAfter writeAnswerAfter
   call-refused n e h =
-      let no : eqb (writeCallRefusal s (length contents) room) 0 ≡ false = rw (sym e) (ne-eqb n 0 h) in
-      (rw no e, (rw (no, no), (rw no, rw (no, no))))
+      let told : firstNumber (testsOf c) ≡ 0 → ⊥ = rw e at h in
+      let number = first-refused (testsOf c) (λ m. m) (stereoWriting c .number) told in
+      let no = ne-eqb (firstNumber (testsOf c)) 0 told in (
+        e ∙ sym number,
+        (rw (number, no), (sym (first-refused (testsOf c) (λ m. c .out) _ told), rw (number, no))),
+      )
 
-  module _ (e : writeCallRefusal s (length contents) room ≡ 0) where
-    pub contents-refused : (stereoWriting s contents out .number ≡ 0 → ⊥)
-        → Ends (stereoWriting s contents out .number) s
-        (writtenOver (stereoWriting s contents out) (stateAt s) (contentsAt contents) out) answer
-    unfolding writeNumber writeStateAfter writeOutputAfter writeAnswerAfter
+  -- the output after the writer
+  abbrev pub written : List ℕ
+  written = writtenOver (stereoWriting c) (stateAt (c .state)) (contentsAt (c .contents)) (c .out)
+
+  module _ (e : firstNumber (testsOf c) ≡ 0) where
+    number-is : writeNumber c ≡ stereoWriting c .number
+    unfolding writeNumber
+    number-is = first-passed (testsOf c) (λ m. m) (stereoWriting c .number) tt e
+
+    output-is : written ≡ writeOutputAfter c
+    unfolding writeOutputAfter
+    output-is = sym (first-passed (testsOf c) (λ m. c .out) written tt e)
+
+    pub contents-refused : (stereoWriting c .number ≡ 0 → ⊥)
+        → WriteStereoPromise c (stereoWriting c .number) (c .state) written (c .answer)
+    unfolding writeStateAfter writeAnswerAfter
     contents-refused h =
-        let no : eqb (stereoWriting s contents out .number) 0 ≡ false = ne-eqb _ 0 h in
-        (rw e, (rw (e, no), (rw e, rw (e, no))))
+        let no : eqb (stereoWriting c .number) 0 ≡ false = ne-eqb _ 0 h in
+        (sym number-is, (rw (number-is, no), (output-is, rw (number-is, no))))
 
-    pub accepted : stereoWriting s contents out .number ≡ 0
-        → Ends 0 (over s 0 (stateBytes (stereoWriting s contents out .state)))
-        (writtenOver (stereoWriting s contents out) (stateAt s) (contentsAt contents) out)
-        (over answer 0 (wordOf (stereoWriting s contents out .bits)))
-    unfolding writeNumber writeStateAfter writeOutputAfter writeAnswerAfter
+    pub accepted : stereoWriting c .number ≡ 0
+        → WriteStereoPromise c 0 (over (c .state) 0 (stateBytes (stereoWriting c .state))) written
+        (over (c .answer) 0 (wordOf (stereoWriting c .bits)))
+    unfolding writeStateAfter writeAnswerAfter
     accepted h =
-        let yes : eqb (stereoWriting s contents out .number) 0 ≡ true = eq-eqb _ 0 h in
-        (rw e (sym h), (rw (e, yes), (rw e, rw (e, yes))))
+        let yes : eqb (stereoWriting c .number) 0 ≡ true = eq-eqb _ 0 h in
+        (sym h ∙ sym number-is, (rw (number-is, yes), (output-is, rw (number-is, yes))))

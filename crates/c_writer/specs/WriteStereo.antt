@@ -1,49 +1,53 @@
 -- The contents that bytes stand for, written from the state that bytes stand for.
 use Prim.Native.Nat.{ℕ}
 use mathlib.Core.Path.{_≡_}
-use mathlib.Core.List.{List}
-use lib.Dec.{eqb, leb}
+use mathlib.Core.List.{List, [], _∷_}
+use lib.Dec.{leb}
 use lib.ListN.{length}
-use Rattle.bits.specs.Reader.{pick}
 use Rattle.stereo_writer.specs.Writing.{writing, writtenOver}
 use Rattle.stereo_writer.specs.declared.Written.{Written}
 use Rattle.bits.specs.Bytes.{wordOf}
 use Rattle.c_layout.specs.StateBytes.{stateBytes, stateAt, soundBytes}
 use Rattle.c_layout.specs.ContentsBytes.{contentsAt}
-use Rattle.bits.specs.Calls.{answered}
+use Rattle.bits.specs.Calls.{Test, _or_, firstRefusal, answered}
 
--- 2 for an answer that does not fit; 4; then 40 for bytes too few to stand for contents; 0 where all is well
-abbrev pub writeCallRefusal : List ℕ → ℕ → ℕ → ℕ
-writeCallRefusal s size room = pick (leb 4 room) (pick (soundBytes s) (pick (leb 582 size) 0 40) 4) 2
+-- what a call is given: the lent state, the contents, and the lent output and answer
+pub record Call : Type 0 where
+  pub state : List ℕ
+  pub contents : List ℕ
+  pub out : List ℕ
+  pub answer : List ℕ
+
+-- what is judged before the writer judges: whether the answer fits, the state, and whether the bytes are enough to stand for contents
+abbrev pub writeTests : List ℕ → ℕ → ℕ → List Test
+writeTests s size room = leb 4 room or 2 ∷ soundBytes s or 4 ∷ leb 582 size or 40 ∷ []
+
+abbrev pub testsOf : Call → List Test
+testsOf c = writeTests (c .state) (length (c .contents)) (length (c .answer))
 
 -- the writer's own answer
-abbrev pub stereoWriting : List ℕ → List ℕ → List ℕ → Written
-stereoWriting s contents out = writing (stateAt s) (contentsAt contents) (length out)
+abbrev pub stereoWriting : Call → Written
+stereoWriting c = writing (stateAt (c .state)) (contentsAt (c .contents)) (length (c .out))
 
 -- the number that comes back
-unfoldable pub writeNumber : List ℕ → List ℕ → List ℕ → ℕ → ℕ
-writeNumber s contents out room =
-    pick (eqb (writeCallRefusal s (length contents) room) 0) (stereoWriting s contents out .number)
-    (writeCallRefusal s (length contents) room)
+unfoldable pub writeNumber : Call → ℕ
+writeNumber c = firstRefusal (testsOf c) (λ n. n) (stereoWriting c .number)
 
 -- the state afterwards
-unfoldable pub writeStateAfter : List ℕ → List ℕ → List ℕ → ℕ → List ℕ
-writeStateAfter s contents out room = answered (writeNumber s contents out room) (stateBytes (stereoWriting s contents out .state)) s
+unfoldable pub writeStateAfter : Call → List ℕ
+writeStateAfter c = answered (writeNumber c) (stateBytes (stereoWriting c .state)) (c .state)
 
 -- the output afterwards
-unfoldable pub writeOutputAfter : List ℕ → List ℕ → List ℕ → ℕ → List ℕ
-writeOutputAfter s contents out room =
-    pick (eqb (writeCallRefusal s (length contents) room) 0)
-    (writtenOver (stereoWriting s contents out) (stateAt s) (contentsAt contents) out) out
+unfoldable pub writeOutputAfter : Call → List ℕ
+writeOutputAfter c =
+    firstRefusal (testsOf c) (λ n. c .out)
+    (writtenOver (stereoWriting c) (stateAt (c .state)) (contentsAt (c .contents)) (c .out))
 
 -- the answer afterwards: a word, the bits that were written
-unfoldable pub writeAnswerAfter : List ℕ → List ℕ → List ℕ → List ℕ → List ℕ
-writeAnswerAfter s contents out answer =
-    answered (writeNumber s contents out (length answer)) (wordOf (stereoWriting s contents out .bits)) answer
+unfoldable pub writeAnswerAfter : Call → List ℕ
+writeAnswerAfter c = answered (writeNumber c) (wordOf (stereoWriting c .bits)) (c .answer)
 
 -- everything that a call gives: the number that comes back, and the state, the output and the answer afterwards
-abbrev pub WriteStereoPromise : List ℕ → List ℕ → List ℕ → List ℕ → ℕ → List ℕ → List ℕ → List ℕ → Type 0
-WriteStereoPromise s contents out answer r s′ out′ answer′ =
-    (r ≡ writeNumber s contents out (length answer))
-    × ((s′ ≡ writeStateAfter s contents out (length answer))
-    × ((out′ ≡ writeOutputAfter s contents out (length answer)) × (answer′ ≡ writeAnswerAfter s contents out answer)))
+abbrev pub WriteStereoPromise : Call → ℕ → List ℕ → List ℕ → List ℕ → Type 0
+WriteStereoPromise c r state′ out′ answer′ =
+    (r ≡ writeNumber c) × ((state′ ≡ writeStateAfter c) × ((out′ ≡ writeOutputAfter c) × (answer′ ≡ writeAnswerAfter c)))

@@ -1,14 +1,15 @@
 // A stereo payload, written from contents and a state that are bytes.
 ghost use mathlib.Core.Path.{_≡_};
-ghost use Rattle.c_writer.specs.WriteStereo.{writeCallRefusal, WriteStereoPromise};
+ghost use Rattle.bits.specs.Calls.{firstNumber};
+ghost use Rattle.c_writer.specs.WriteStereo.{writeTests, WriteStereoPromise};
 use bits::bytes;
 use c_layout::answers;
 use c_layout::states;
 use stereo_writer::writing;
 
 // What is judged before contents are written: a refusal's number, or 0.
-fn write_call_refusal(state: &[u8], size: usize, room: usize) -> u32
-    ensures { λ r. ⌜ r ≡ writeCallRefusal (now (state .entry)) size room ⌝ }
+fn write_refusal(state: &[u8], size: usize, room: usize) -> u32
+    ensures { λ r. ⌜ r ≡ firstNumber (writeTests (now (state .entry)) size room) ⌝ }
 {
     if room < 4 {
         return 2;
@@ -30,10 +31,16 @@ pub extern "C" fn oarcradler_write_stereo(
     out: &mut [u8],
     answer: &mut [u8],
 ) -> u32
-    ensures { λ r. ⌜ WriteStereoPromise (now (state .entry)) (now (contents .entry)) (now (out .entry)) (now (answer .entry))
+    ensures { λ r. ⌜ WriteStereoPromise
+        (record {
+          state = now (state .entry);
+          contents = now (contents .entry);
+          out = now (out .entry);
+          answer = now (answer .entry);
+        })
         r (now (state .exit)) (now (out .exit)) (now (answer .exit)) ⌝ }
 {
-    let number = write_call_refusal(state, contents.len(), answer.len());
+    let number = write_refusal(state, contents.len(), answer.len());
     if number != 0 {
         return number;
     }

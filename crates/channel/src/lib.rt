@@ -3,10 +3,11 @@ ghost use mathlib.Core.Path.{_≡_};
 ghost use mathlib.Core.List.{_++_};
 ghost use Prim.Native.Nat.{_≤_};
 ghost use lib.ListN.{length, drop};
-ghost use Rattle.bits.specs.Payload.{whole};
+ghost use Rattle.bits.specs.Payload.{inBuffer, whole};
+ghost use Rattle.bits.specs.Calls.{firstNumber};
 ghost use Rattle.channel.specs.Stream.{stream};
-ghost use Rattle.channel.specs.Promise.{channelCallRefusal, refusal, accepted, channel};
-ghost use Rattle.channel.specs.Promise.{readingOf, linesAfter, factorsAfter, booksAfter, ReadChannelPromise};
+ghost use Rattle.channel.specs.Promise.{outputsFit, channelTests, refusal, accepted, readingOf};
+ghost use Rattle.channel.specs.Promise.{linesAfter, factorsAfter, booksAfter, ReadChannelPromise};
 use crate::stream::Head;
 use bits::Ended;
 use bits::bytes;
@@ -14,9 +15,11 @@ use bits::calls::is_known_index;
 
 pub mod stream;
 
-// What a call found: 0 and the numbers of a stream, with the windows of each group and the bits used; or a refusal's number.
+// What a call found: 0 and the numbers of a stream, with the windows of each group and the bits used; or a refusal's number and the bit
+// at which it was refused.
 pub struct Reading {
     pub number: u8,
+    pub place: usize,
     pub gain: u8,
     pub sequence: u8,
     pub shape: u8,
@@ -26,17 +29,22 @@ pub struct Reading {
     pub bits: usize,
 }
 
-// What is judged before any bit is read: a refusal's number, or 0.
-pub fn channel_call_refusal(
-    size: usize,
-    start: usize,
-    end: usize,
-    index: u8,
-    lines: usize,
-    factors: usize,
-    books: usize,
-) -> u8
-    ensures { λ r. ⌜ r ≡ channelCallRefusal size start end index lines factors books ⌝ }
+// Whether outputs of so many places have room for what a stream has.
+pub fn outputs_fit(lines: usize, factors: usize, books: usize) -> bool
+    ensures { λ r. ⌜ r ≡ outputsFit lines factors books ⌝ }
+{
+    if lines < 1024 {
+        return false;
+    }
+    if factors < 120 {
+        return false;
+    }
+    120 <= books
+}
+
+// What is judged before any bit is read, where the outputs have room or have not: a refusal's number, or 0.
+pub fn channel_refusal(size: usize, start: usize, end: usize, room: bool, index: u8) -> u8
+    ensures { λ r. ⌜ r ≡ firstNumber (channelTests (inBuffer start end size) room index) ⌝ }
 {
     if end < start {
         return 1;
@@ -44,13 +52,7 @@ pub fn channel_call_refusal(
     if size < end {
         return 1;
     }
-    if lines < 1024 {
-        return 2;
-    }
-    if factors < 120 {
-        return 2;
-    }
-    if books < 120 {
+    if !room {
         return 2;
     }
     if !is_known_index(index as usize) {
@@ -59,12 +61,13 @@ pub fn channel_call_refusal(
     0
 }
 
-// The answer to a refusal.
-pub fn refused(number: u8) -> Reading
-    ensures { λ r. ⌜ r ≡ refusal number ⌝ }
+// The answer to a refusal at a bit.
+pub fn refused(number: u8, place: usize) -> Reading
+    ensures { λ r. ⌜ r ≡ refusal number place ⌝ }
 {
     Reading {
         number,
+        place,
         gain: 0,
         sequence: 0,
         shape: 0,
@@ -84,6 +87,7 @@ pub fn answer(head: Head, bits: usize) -> Reading
     let windows = found.windows;
     Reading {
         number: 0,
+        place: 0,
         gain: head.gain,
         sequence: window.sequence,
         shape: window.shape,
@@ -140,7 +144,7 @@ fn read_slice(
             copy_bands(books, band_books);
             answer(read.head, bits)
         }
-        Ended::Refused(number, _) => refused(number),
+        Ended::Refused(number, place) => refused(number, place),
     }
 }
 
@@ -155,20 +159,18 @@ pub fn read_channel(
     factors: &mut [u8],
     books: &mut [u8],
 ) -> Reading
-    ensures { λ r. ⌜ ReadChannelPromise (now (buf .entry)) start end index (now (lines .entry)) (now (factors .entry)) (now (books .entry))
-        r (now (lines .exit)) (now (factors .exit)) (now (books .exit)) ⌝ }
+    ensures { λ r. ⌜ ReadChannelPromise
+        (record {
+          payload = record { bytes = now (buf .entry); start = start; end = end };
+          index = index;
+          outputs = record { lines = now (lines .entry); factors = now (factors .entry); books = now (books .entry) };
+        })
+        r (record { lines = now (lines .exit); factors = now (factors .exit); books = now (books .exit) }) ⌝ }
 {
-    let number = channel_call_refusal(
-        buf.len(),
-        start,
-        end,
-        index,
-        lines.len(),
-        factors.len(),
-        books.len(),
-    );
+    let room = outputs_fit(lines.len(), factors.len(), books.len());
+    let number = channel_refusal(buf.len(), start, end, room, index);
     if number != 0 {
-        return refused(number);
+        return refused(number, 0);
     }
     read_slice(&buf[start..end], index, lines, factors, books)
 }

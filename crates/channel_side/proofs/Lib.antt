@@ -6,6 +6,7 @@ pub mod FactorLaws
 pub mod PulseLaws
 pub mod LineLaws
 pub mod SideLawful
+pub mod PulsePlaces
 pub mod KnownBooks
 pub mod SideMoves
 pub mod SideNear

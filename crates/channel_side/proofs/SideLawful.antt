@@ -9,9 +9,9 @@ use lib.Dec.{leb}
 use lib.IntN.{ℤ, natAbs}
 use native.Mathlib.Omega.{arith}
 use Rattle.bits.specs.Reader.{got, refused, pick}
-use Rattle.bits.proofs.Lawful.{Lawful, never, bind-lawful, give-lawful, refuse-lawful, pick-lawful, expecting-lawful}
+use Rattle.bits.proofs.Lawful.{Accepting, Lawful, never, bind-lawful, give-lawful, refuse-lawful, pick-lawful, expecting-lawful}
 use Rattle.bits.proofs.FieldLaws.{field-lawful, zeroBit-lawful}
-use Rattle.bits.proofs.LoopLaws.{counted-lawful}
+use Rattle.bits.proofs.LoopLaws.{counted-accepting, counted-lawful}
 use Rattle.bits.proofs.PlacesLaws.{here-lawful}
 use Rattle.tables.specs.Tables.{wordOf}
 use Rattle.tables.specs.GeneratedNames.{scaleFactor}
@@ -63,7 +63,7 @@ pub factors-lawful : (gain : ℕ) (w : Window) (books : List ℕ) → Lawful (sc
 unfolding scaleFactors firstFactors
 factors-lawful gain w books = search (laws, factor-lawful) depth 8
 
-pulse-lawful : (k : ℕ) (x : Laid) → Lawful (pulse k x)
+pub pulse-lawful : (k : ℕ) (x : Laid) → Lawful (pulse k x)
 unfolding pulse
 pulse-lawful k x = search laws depth 8
 
@@ -85,15 +85,16 @@ changed-at z line place lines at next a e = go (leb (natAbs z) 8191) _ e
     go true ls e = cc
     go false ls e = never e
 
-apply-lawful : (x : Pulses) (k : ℕ) (lines : List ℤ) → Lawful (applyPulse x k lines)
+-- what pulses change is right; the place of a refusal is what the pulses say
+apply-accepting : (x : Pulses) (k : ℕ) (lines : List ℤ) → Accepting (applyPulse x k lines)
 unfolding applyPulse
-apply-lawful x k lines = record {
+apply-accepting x k lines = record {
   within = λ s at end next a h e. let q = changed-at _ _ _ _ at next a e in (omega arith, omega arith);
   local = λ s t at end h q. refl;
   stable = λ s at end next end′ a h e l. e;
   cut = λ s at end next end′ a h e l g. let q = changed-at _ _ _ _ at next a e in absurd (omega arith);
 }
 
-pub applied-lawful : (x : Pulses) (lines : List ℤ) → Lawful (applyPulses x lines)
+pub applied-accepting : (x : Pulses) (lines : List ℤ) → Accepting (applyPulses x lines)
 unfolding applyPulses
-applied-lawful x lines = counted-lawful (applyPulse x) (apply-lawful x) 0 _ lines
+applied-accepting x lines = counted-accepting (applyPulse x) (apply-accepting x) 0 _ lines

@@ -17,7 +17,7 @@ enum Outcome {
 // The line of the k-th frame, which starts at a byte of the file.
 fn say_row(k: usize, byte: usize, r: Row) -> bool {
     if r.number != 0 {
-        return frames::say_refused_frame(k, byte, r.number);
+        return frames::say_refused_frame(k, byte, r.number, r.place);
     }
     frames::say_frame(k, byte, r.length, r.index, r.gain, r.lines, r.bits)
 }

@@ -1,12 +1,12 @@
 -- The tag image: big-endian pairs of bytes, the payload count, the sampling index and the offsets; then the payloads.
 use Prim.Native.Nat.{ℕ, zero, suc, _+_, _*_, _%_, _≤_}
 use mathlib.Core.Path.{_≡_}
-use mathlib.Core.List.{List}
+use mathlib.Core.List.{List, [], _∷_}
 use mathlib.Core.Bool.{Bool, true, _&&_}
 use lib.Dec.{leb, ltb, eqb}
 use lib.ListN.{length, getD}
-use Rattle.bits.specs.Reader.{pick}
 use Rattle.bits.specs.Payload.{range}
+use Rattle.bits.specs.Calls.{_or_, firstRefusal}
 use Rattle.bits.specs.Sampling.{knownIndex}
 use Rattle.image.specs.declared.Header.{Header}
 use Rattle.image.specs.declared.Part.{Part}
@@ -40,12 +40,11 @@ soundImage s =
 abbrev pub refusedHeader : ℕ → Header
 refusedHeader n = record { number = n; count = 0; index = 0 }
 
--- what the header says: 5, then 3
+-- what the header says
 unfoldable pub headerOf : List ℕ → Header
 headerOf s =
-    pick (soundImage s)
-    (pick (knownIndex (indexOf s)) (record { number = 0; count = countOf s; index = indexOf s }) (refusedHeader 3))
-    (refusedHeader 5)
+    firstRefusal (soundImage s or 5 ∷ knownIndex (indexOf s) or 3 ∷ []) refusedHeader
+    (record { number = 0; count = countOf s; index = indexOf s })
 
 abbrev pub refusedPart : ℕ → Part
 refusedPart n = record { number = n; start = 0; end = 0 }
@@ -53,9 +52,8 @@ refusedPart n = record { number = n; start = 0; end = 0 }
 -- where the k-th payload stands, of an image whose header says this: the header's refusal; 1 where there is no such payload
 abbrev pub partIn : Header → List ℕ → ℕ → Part
 partIn h s k =
-    pick (eqb (h .number) 0)
-    (pick (ltb k (h .count)) (record { number = 0; start = offsetOf s k; end = offsetOf s (k + 1) }) (refusedPart 1))
-    (refusedPart (h .number))
+    firstRefusal (eqb (h .number) 0 or h .number ∷ ltb k (h .count) or 1 ∷ []) refusedPart
+    (record { number = 0; start = offsetOf s k; end = offsetOf s (k + 1) })
 
 unfoldable pub partOf : List ℕ → ℕ → Part
 partOf s k = partIn (headerOf s) s k

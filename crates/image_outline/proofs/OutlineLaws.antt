@@ -63,26 +63,26 @@ module _ (s rows : List ℕ) where
   image-refused e = let h = header-5 s e in left (headerOf s) (rw (h .0) (h .1)) (λ z. absurd (omega arith))
 
   module _ (e : headerOf s .number ≡ 5 → ⊥) where
-    pub no-room : length rows < 4 * countOf s → Ends (refusedHeader 2) rows
+    pub no-room : length rows < 5 * countOf s → Ends (refusedHeader 2) rows
     unfolding outlineOf
     no-room h =
-        left (refusedHeader 2) (rw (header-not-5 s e, lt-leb (4 * countOf s) (length rows) h)) (λ z. absurd (omega arith))
+        left (refusedHeader 2) (rw (header-not-5 s e, lt-leb (5 * countOf s) (length rows) h)) (λ z. absurd (omega arith))
 
-    fits : 4 * countOf s ≤ length rows → headerOf s ≡ outlineOf s (length rows)
+    fits : 5 * countOf s ≤ length rows → headerOf s ≡ outlineOf s (length rows)
     unfolding outlineOf
-    fits h = rw (header-not-5 s e, le-leb (4 * countOf s) (length rows) h)
+    fits h = rw (header-not-5 s e, le-leb (5 * countOf s) (length rows) h)
 
-    pub index-refused : 4 * countOf s ≤ length rows → (headerOf s .number ≡ 0 → ⊥) → Ends (headerOf s) rows
+    pub index-refused : 5 * countOf s ≤ length rows → (headerOf s .number ≡ 0 → ⊥) → Ends (headerOf s) rows
     index-refused h n = left (headerOf s) (fits h) n
 
-    pub outlined : 4 * countOf s ≤ length rows → headerOf s .number ≡ 0 → Ends (headerOf s) (over rows 0 (rowsOf s (headerOf s .count)))
+    pub outlined : 5 * countOf s ≤ length rows → headerOf s .number ≡ 0 → Ends (headerOf s) (over rows 0 (rowsOf s (headerOf s .count)))
     unfolding rowsAfter
     outlined h z = (fits h, rw (← fits h, z))
 
 -- an outline that is answered is the image's header
 pub outline-header : (s : List ℕ) (room : ℕ) → outlineOf s room .number ≡ 0 → outlineOf s room ≡ headerOf s
 unfolding outlineOf
-outline-header s room = go (soundImage s) (leb (4 * countOf s) room)
+outline-header s room = go (soundImage s) (leb (5 * countOf s) room)
   where
     go : (a b : Bool) → pick a (pick b (headerOf s) (refusedHeader 2)) (refusedHeader 5) .number ≡ 0
         → pick a (pick b (headerOf s) (refusedHeader 2)) (refusedHeader 5) ≡ headerOf s

@@ -1,6 +1,6 @@
--- The outline of an image: of each payload, in order, four numbers. An accepted channel stream has 0, its gain, how many
--- of its lines are not 0, and its bits; an accepted stereo payload has 0, its envelopes, 0, and its bits; a refused
--- payload its number and zeros.
+-- The outline of an image: of each payload, in order, five numbers. An accepted channel stream has 0, 0, its gain, how many
+-- of its lines are not 0, and its bits; an accepted stereo payload has 0, 0, its envelopes, 0, and its bits; a refused
+-- payload its number, its place, and zeros.
 use Prim.Native.Nat.{ℕ, zero, suc, _+_, _*_}
 use mathlib.Core.Path.{_≡_}
 use mathlib.Core.List.{List, [], _∷_, _++_}
@@ -14,16 +14,17 @@ use Rattle.stereo.specs.declared.State.{State}
 use Rattle.image.specs.Image.{countOf, soundImage, refusedHeader, headerOf, bytesOf}
 use Rattle.image.specs.declared.Header.{Header}
 use Rattle.bits.specs.Bytes.{over}
+use Rattle.bits.specs.Calls.{_or_, firstRefusal}
 use Rattle.image_outline.specs.Answers.{isEven, channelIn, stereoIn, stateBefore}
 
 -- the numbers of a channel stream
 abbrev pub channelRow : Answer Stream → List ℕ
-channelRow (got x bits) = 0 ∷ x .head .gain ∷ sounding (x .coded .lines) ∷ bits ∷ []
-channelRow (refused n place) = n ∷ 0 ∷ 0 ∷ 0 ∷ []
+channelRow (got x bits) = 0 ∷ 0 ∷ x .head .gain ∷ sounding (x .coded .lines) ∷ bits ∷ []
+channelRow (refused n place) = n ∷ place ∷ 0 ∷ 0 ∷ 0 ∷ []
 
 -- the numbers of a stereo payload; a refusal has no contents
 abbrev pub stereoRow : Reading → List ℕ
-stereoRow r = r .number ∷ r .contents .frame .envelopes ∷ 0 ∷ r .bits ∷ []
+stereoRow r = r .number ∷ r .place ∷ r .contents .frame .envelopes ∷ 0 ∷ r .bits ∷ []
 
 -- the numbers of the k-th payload, which fills a part, from the state before it
 unfoldable pub rowFrom : State → ℕ → ℕ → List ℕ → List ℕ
@@ -37,9 +38,9 @@ unfoldable pub rowsOf : List ℕ → ℕ → List ℕ
 rowsOf s zero = []
 rowsOf s (suc k) = rowsOf s k ++ rowOf s k
 
--- 5, then 2 where the rows don't fit, then 3
+-- the image, and whether the rows fit, are judged before the rest of the header, which is the index
 unfoldable pub outlineOf : List ℕ → ℕ → Header
-outlineOf s room = pick (soundImage s) (pick (leb (4 * countOf s) room) (headerOf s) (refusedHeader 2)) (refusedHeader 5)
+outlineOf s room = firstRefusal (soundImage s or 5 ∷ leb (5 * countOf s) room or 2 ∷ []) refusedHeader (headerOf s)
 
 -- the lent rows afterwards: those of each payload from the front on, or what they held
 unfoldable pub rowsAfter : List ℕ → List ℕ → List ℕ

@@ -6,6 +6,7 @@ ghost use Rattle.image.specs.Image.{headerOf, partOf, bytesOf};
 ghost use Rattle.image_outline.specs.Answers.{stateFrom};
 ghost use Rattle.io.specs.Counts.{Counts};
 ghost use Rattle.print.specs.InnerStates.{printedFrom, printedAfter};
+use print_lines::Payload;
 use stereo::State;
 use stereo::states;
 
@@ -35,12 +36,19 @@ fn print_details(ok: bool, image: &[u8], k: usize, index: u8, state: State) -> P
     stereos::print_stereo(ok, state, bytes)
 }
 
-// The k-th payload's line, from its four numbers in the outline.
-fn print_line(k: usize, rows: &[usize]) -> bool
-    requires { ⌜ (k < 1024) × (4096 ≤ length (now rows)) ⌝ }
+// The k-th payload's line, from its five numbers in the outline; in full with the place of a refusal.
+fn print_line(k: usize, rows: &[usize], full: bool) -> bool
+    requires { ⌜ (k < 1024) × (5120 ≤ length (now rows)) ⌝ }
 {
-    let at = 4 * k;
-    print_lines::say_payload(k, rows[at], rows[at + 1], rows[at + 2], rows[at + 3])
+    let at = 5 * k;
+    let payload = Payload {
+        number: rows[at],
+        place: rows[at + 1],
+        first: rows[at + 2],
+        second: rows[at + 3],
+        bits: rows[at + 4],
+    };
+    print_lines::say_payload(full, k, payload)
 }
 
 // The k-th payload: its line, and in full what it holds, from the state before it.
@@ -52,11 +60,11 @@ fn print_payload(
     full: bool,
     state: State,
 ) -> Printed
-    requires { ⌜ (k < 1024) × (4096 ≤ length (now rows))
+    requires { ⌜ (k < 1024) × (5120 ≤ length (now rows))
         × (partOf (now image) k .number ≡ 0) × (state ≡ printedFrom full (now image) k) ⌝ }
     ensures { λ r. ⌜ r .state ≡ printedAfter full state k (bytesOf (now (image .entry)) k) ⌝ }
 {
-    let written = print_line(k, rows);
+    let written = print_line(k, rows, full);
     if full {
         return print_details(written, image, k, index, state);
     }
@@ -65,7 +73,7 @@ fn print_payload(
 
 // The payloads of an image that has this outline, in their order, up to the first line that is not written; whether all were.
 fn print_payloads(image: &[u8], count: usize, index: u8, rows: &[usize], full: bool) -> bool
-    requires { ⌜ (count ≤ 1024) × (4096 ≤ length (now rows))
+    requires { ⌜ (count ≤ 1024) × (5120 ≤ length (now rows))
         × (headerOf (now image) ≡ record { number = 0; count = count; index = index }) ⌝ }
 {
     let mut state = states::fresh();
@@ -84,7 +92,7 @@ fn print_payloads(image: &[u8], count: usize, index: u8, rows: &[usize], full: b
 
 // An image; the answer is whether every line was written.
 fn print_image(image: &[u8], full: bool) -> bool {
-    let mut rows = [0usize; 4096];
+    let mut rows = [0usize; 5120];
     let header = image_outline::read_image(image, &mut rows);
     if header.number != 0 {
         return print_lines::say_refused_image(header.number);

@@ -139,6 +139,16 @@ held old new at t e h =
     let long : length new ≡ length old = ap length bytes ∙ over-length old 0 t (omega arith) in
     (there, omega arith, bytes)
 
+-- a text put after another
+pub after : (l : Line) {m n : Line} (xs ys : List ℕ) → m ≡ withText l xs → n ≡ withText m ys → n ≡ withText l (xs ++ ys)
+after l xs ys e f = f ∙ ap (λ (x : Line). withText x ys) e ∙ sym (text-after l xs ys)
+
+-- a line of two texts
+pub two-held : {mid new : List ℕ} {to at : ℕ} (old : List ℕ) (xs ys : List ℕ) → lineOf mid to ≡ withText (lineOf old 0) xs
+    → lineOf new at ≡ withText (lineOf mid to) ys → length xs + length ys < length old
+    → HoldsLine old (xs ++ ys) at new
+two-held {mid} {new} {to} {at} old xs ys e f h = held old new at (xs ++ ys) (after (lineOf old 0) xs ys e f) (rw (length-append xs ys) h)
+
 -- a text takes no more room than its length, and a full line takes none
 pub text-most : (l : Line) (t : List ℕ) → withText l t .at ≤ l .at + length t
 unfolding withText

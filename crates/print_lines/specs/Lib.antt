@@ -1,3 +1,4 @@
 pub mod InnerText
+pub mod InnerPlaces
 pub mod InnerListing
 pub mod InnerFrames

@@ -4,6 +4,7 @@ ghost use Prim.Native.Nat.{_≤_};
 ghost use lib.ListN.{length};
 ghost use Rattle.print_lines.specs.InnerText.{HoldsLine};
 ghost use Rattle.print_lines.specs.InnerFrames.{frameLine, refusedFrame};
+use crate::places;
 use crate::put_line;
 use crate::text;
 
@@ -28,12 +29,13 @@ fn put_frame(
     )
 }
 
-// The line of a frame that was refused.
-fn put_refused_frame(line: &mut [u8], k: usize, byte: usize, number: usize) -> usize
+// The line of a frame that was refused, with its place.
+fn put_refused_frame(line: &mut [u8], k: usize, byte: usize, number: usize, place: usize) -> usize
     requires { ⌜ 2048 ≤ length (now line) ⌝ }
-    ensures { λ r. ⌜ HoldsLine (now (line .entry)) (refusedFrame k byte number) r (now (line .exit)) ⌝ }
+    ensures { λ r. ⌜ HoldsLine (now (line .entry)) (refusedFrame k byte number place) r (now (line .exit)) ⌝ }
 {
-    put_line(line, b"# frame at # refused #", &[k, byte, number])
+    let at = text::put_form(line, 0, b"# frame at # refused #", &[k, byte, number]);
+    places::put_place(line, at, true, number, place)
 }
 
 // The line of a frame that was accepted is written.
@@ -52,8 +54,8 @@ pub fn say_frame(
 }
 
 // The line of a frame that was refused is written.
-pub fn say_refused_frame(k: usize, byte: usize, number: usize) -> bool {
+pub fn say_refused_frame(k: usize, byte: usize, number: usize, place: usize) -> bool {
     let mut line = [0u8; 2048];
-    let at = put_refused_frame(&mut line, k, byte, number);
+    let at = put_refused_frame(&mut line, k, byte, number, place);
     text::say(true, &mut line, at)
 }

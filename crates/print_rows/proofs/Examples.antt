@@ -23,7 +23,17 @@ use Rattle.print_rows.specs.InnerStateRows.{stateRow, recordRow, iidReco
 
 -- two groups, of five windows and of three, with two bands each
 abbrev short : Reading
-short = record { number = 0; gain = 100; sequence = 2; shape = 1; «max_sfb» = 2; «group_count» = 2; groups = 5 ∷ 3 ∷ 0 ∷ []; bits = 90 }
+short = record {
+  number = 0;
+  place = 0;
+  gain = 100;
+  sequence = 2;
+  shape = 1;
+  «max_sfb» = 2;
+  «group_count» = 2;
+  groups = 5 ∷ 3 ∷ 0 ∷ [];
+  bits = 90;
+}
 
 channel-rows : (windowRow short ≡ ascii "  window 2 shape 1 max_sfb 2 groups 5 3")
     × (booksRow short (11 ∷ 0 ∷ 1 ∷ 15 ∷ 9 ∷ []) ≡ ascii "  books 11 0 1 15")

@@ -3,16 +3,16 @@
 -- Assumes nothing.
 use Prim.Native.Nat.{ℕ, _*_, _-_, _<_, _≤_}
 use mathlib.Core.Path.{_≡_, refl, sym, ap, _∙_}
-use mathlib.Core.List.{List, [], _++_}
+use mathlib.Core.List.{List, [], _∷_, _++_}
 use mathlib.Core.Bool.{Bool, true, false}
 use native.Mathlib.Omega.{arith}
-use lib.Dec.{eqb}
+use lib.Dec.{leb}
 use lib.ListN.{length, take, drop, length-append, length-replicate}
 use lib.Seq.{take-append-seam}
-use Rattle.bits.specs.Reader.{got, refused, pick}
+use Rattle.bits.specs.Reader.{got, refused}
 use Rattle.bits.specs.Bytes.{wordOf}
-use Rattle.bits.specs.Calls.{callRefusal}
-use Rattle.bits.specs.Payload.{range}
+use Rattle.bits.specs.Calls.{_or_, firstRefusal}
+use Rattle.bits.specs.Payload.{Range, isThere, bytesIn}
 use Rattle.bits.proofs.FourBytes.{word-back}
 use Rattle.bits.proofs.Lawful.{never}
 use Rattle.bits.proofs.OverLaws.{over-front}
@@ -21,18 +21,17 @@ use Rattle.channel_lines.proofs.GroupCounts.{groups-few}
 use Rattle.channel_side.specs.Window.{isShort, groups}
 use Rattle.channel.specs.declared.stream.Head.{Head}
 use Rattle.channel.specs.Stream.{Stream}
-use Rattle.channel.specs.Promise.{accepted, channel}
+use Rattle.channel.specs.Promise.{Outputs, haveRoom, accepted, channel}
 use Rattle.channel.proofs.StreamNear.{stream-near}
-use Rattle.c_channel.specs.ReadChannel.{channelBytes, channelCall, channelAnswerAfter}
+use Rattle.c_channel.specs.ReadChannel.{Call, channelBytes, channelCall, channelAnswerAfter}
 use Rattle.promises.specs.AnswerAt.{readingAt}
 use Rattle.promises.proofs.Acceptance.{stream-exactly}
 
 -- a stream that a call accepts takes few bits
-pub channel-few : (buf : List ℕ) (start end index lines factors books bits : ℕ) (x : Stream)
-    → channel buf start end index lines factors books ≡ got x bits → bits ≤ 38000
-channel-few buf start end index lines factors books bits x e =
-    let s = range buf start end in
-    let read = stream-exactly buf start end index lines factors books x bits e .read in
+pub channel-few : (p : Range) (index : ℕ) (o : Outputs) (bits : ℕ) (x : Stream) → channel p index (haveRoom o) ≡ got x bits → bits ≤ 38000
+channel-few p index o bits x e =
+    let s = bytesIn p in
+    let read = stream-exactly p index o x bits e .read in
     omega (arith, stream-near index .law s 0 (8 * length s) bits x read)
 
 eight : (h : Head) → length (inEight (groups (h .window))) ≡ 8
@@ -54,6 +53,7 @@ reading-back h bits rest l =
     let word = word-back [] (drop 4 (channelBytes r ++ rest)) bits l in
     λ j. record {
       number = 0;
+      place = 0;
       gain = r .gain;
       sequence = r .sequence;
       shape = r .shape;
@@ -63,20 +63,21 @@ reading-back h bits rest l =
       bits = word j;
     }
 
-module _ (buf : List ℕ) (start end index lines factors books : ℕ) (answer : List ℕ) where
+module _ (c : Call) where
   -- a call that is accepted is the reader's
-  own : (x : Stream) (bits : ℕ) → channelCall buf start end index lines factors books (length answer) ≡ got x bits
-      → channel buf start end index lines factors books ≡ got x bits
+  own : (x : Stream) (bits : ℕ) → channelCall c ≡ got x bits → channel (c .payload) (c .index) (haveRoom (c .outputs)) ≡ got x bits
   unfolding channelCall
-  own x bits = go (eqb (callRefusal (length buf) start end 17 (length answer)) 0) (callRefusal (length buf) start end 17 (length answer))
+  own x bits = go (isThere (c .payload)) (leb 17 (length (c .answer)))
     where
-      go : (b : Bool) (n : ℕ) → pick b (channel buf start end index lines factors books) (refused n 0) ≡ got x bits
-          → channel buf start end index lines factors books ≡ got x bits
-      go true n e = e
-      go false n e = never e
+      go : (a b : Bool)
+          → firstRefusal (a or 1 ∷ b or 2 ∷ []) (λ n. refused n 0) (channel (c .payload) (c .index) (haveRoom (c .outputs))) ≡ got x bits
+          → channel (c .payload) (c .index) (haveRoom (c .outputs)) ≡ got x bits
+      go true true e = e
+      go true false e = never e
+      go false b e = never e
 
-  pub channel-back : (x : Stream) (bits : ℕ) → channelCall buf start end index lines factors books (length answer) ≡ got x bits
-      → readingAt (channelAnswerAfter (got x bits) answer) ≡ accepted (x .head) bits
+  pub channel-back : (x : Stream) (bits : ℕ) → channelCall c ≡ got x bits
+      → readingAt (channelAnswerAfter (got x bits) (c .answer)) ≡ accepted (x .head) bits
   channel-back x bits e =
-      let few = channel-few buf start end index lines factors books bits x (own x bits e) in
-      ap readingAt (over-front answer (channelBytes (accepted (x .head) bits)) _ refl) ∙ reading-back (x .head) bits _ (omega arith)
+      let few = channel-few (c .payload) (c .index) (c .outputs) bits x (own x bits e) in
+      ap readingAt (over-front (c .answer) (channelBytes (accepted (x .head) bits)) _ refl) ∙ reading-back (x .head) bits _ (omega arith)

@@ -32,7 +32,7 @@ mode-6 st s end h e =
     let six : bitsFrom s 2 3 ≡ 6 = omega (arith, a, b) in
     rw (le-leb 1 end (omega arith), there, le-leb 2 end (omega arith), on, le-leb 5 end (omega arith), six)
 
-begins-11110 : (st : State) (s : List ℕ) → s ≢ [] → bitsFrom s 0 5 ≡ 30 → readBytes st s ≡ refusal 13 (lost st)
+begins-11110 : (st : State) (s : List ℕ) → s ≢ [] → bitsFrom s 0 5 ≡ 30 → readBytes st s ≡ refusal 13 2 (lost st)
 unfolding readBytes
 begins-11110 st [] h e = absurd (h refl)
 begins-11110 st (x ∷ s) h e =

@@ -5,26 +5,27 @@ use mathlib.Core.Path.{_≡_, refl, sym, ap, _∙_}
 use mathlib.Core.List.{List, [], _∷_, _++_, append-nil}
 use mathlib.Core.Bool.{Bool, true, false, _&&_, _||_}
 use native.Mathlib.Omega.{arith}
-use borrow.Author.Tests.{le-leb, eqb-true, eq-eqb}
+use borrow.Author.Tests.{le-leb, eqb-true, eq-eqb, ne-eqb}
 use lib.Dec.{eqb}
 use lib.ListN.{length, getD, drop, length-set, length-append, length-drop}
 use lib.Seq.{getD-set-same, getD-set-other}
 use Rattle.bits.specs.Reader.{Answer, got, refused, pick}
 use Rattle.bits.specs.Bytes.{flagByte, over}
-use Rattle.bits.specs.Payload.{inBuffer, range, whole}
+use Rattle.bits.specs.Payload.{Range, rangeIn, isThere, bytesIn, whole}
+use Rattle.bits.specs.Calls.{returned}
+use Rattle.bits.proofs.CallLaws.{Passed, number-kept, place-kept}
 use Rattle.bits.proofs.Bools.{and-both, and-of, true-false}
 use Rattle.bits.proofs.OverLaws.{over-front}
 use Rattle.bits.proofs.PayloadLaws.{whole-got}
 use Rattle.stereo.specs.State.{fresh, sound, lost}
 use Rattle.stereo.specs.Payload.{payload as payload-reader}
-use Rattle.stereo.specs.Carried.{carried}
 use Rattle.stereo.specs.Restart.{restart}
 use Rattle.stereo.specs.declared.State.{State}
 use Rattle.stereo.specs.declared.Contents.{Contents}
 use Rattle.stereo.proofs.PayloadNear.{payload-near}
 use Rattle.stereo_laws.proofs.SoundLaws.{carried-sound}
 use Rattle.stereo_laws.proofs.PayloadNumbers.{whole-not-0}
-use Rattle.stereo_reader.specs.Reading.{from, refusal, taken, readingOf, readBytes, readFrom, missing}
+use Rattle.stereo_reader.specs.Reading.{from, refusal, acceptance, taken, readingOf, readBytes, readFrom, missing}
 use Rattle.stereo_reader.specs.declared.Reading.{Reading}
 use Rattle.stereo.proofs.StateLaws.{fresh-sound, lost-sound}
 use Rattle.c_layout.specs.StateBytes.{stateHead, stateBytes, stateAt, isFlag, soundBytes}
@@ -32,18 +33,19 @@ use Rattle.c_layout.specs.ContentsBytes.{answerBytes}
 use Rattle.c_layout.proofs.StateLaws.{sound-parts, sound-of, flagged}
 use Rattle.c_layout.proofs.BackLaws.{ContentsFit, StateFits, state-back, contents-back, bits-back}
 use Rattle.c_stereo.specs.StateCalls.{freshAfter, lostBytes}
-use Rattle.c_stereo.specs.ReadStereo.{stereoCallRefusal, stereoNumber, stereoStateAfter, stereoAnswerAfter}
+use Rattle.c_stereo.specs.ReadStereo.{testsOf, stereoReturned, stereoStateAfter, stereoAnswerAfter}
 use Rattle.image.specs.Image.{bytesOf}
 use Rattle.image_outline.specs.Answers.{isEven, stereoIn, stateFrom, stateBefore}
 use Rattle.runs.specs.Machine.{Event, payload, missing as reporting, reported, Turn, turn, run, after}
 use Rattle.runs.proofs.TurnLaws.{origin-sound}
 use Rattle.runs.proofs.Demand.{after-append, run-append}
 use Rattle.promises.specs.Run.{stereo, turnOf, reportOf}
-use Rattle.promises.specs.CallRun.{calls, lentCalls, Kept, keptAfter, byteOutcome, byteCalls}
+use Rattle.promises.specs.CallRun.{calls, lentCalls, Kept, callOf, keptAfter, byteOutcome, byteCalls}
 use Rattle.promises.specs.CallRun.{oddPayload, oddPayloads, oddTurns}
 use Rattle.promises.proofs.OverBytes.{lost-bytes}
 use Rattle.promises.proofs.Turns.{steady, reads, reports}
 use Rattle.promises.proofs.Untouched.{bytes-touching}
+use Rattle.promises.proofs.Refusals.{bytes-answered, answered-small}
 use Rattle.promises.proofs.FitLaws.{payload-fits, fresh-fits, carried-fits, state-at-fits}
 
 -- a turn, and a run from the state that it leaves
@@ -53,21 +55,22 @@ next st e t q es = ap (λ (u : Turn State Contents). u ∷ run stereo (u .state)
 
 pub by-value : (st : State) (es : List Event) → calls st es ≡ run stereo st es
 by-value st [] = refl
-by-value st (payload b start end ∷ es) =
-    ap (λ (ts : List (Turn State Contents)). turnOf (readFrom st b start end) ∷ ts) (by-value (readFrom st b start end .state) es)
-    ∙ sym (next st (payload b start end) (turnOf (readFrom st b start end)) (reads st b start end) es)
+by-value st (payload p ∷ es) =
+    ap (λ (ts : List (Turn State Contents)). turnOf (readFrom st p) ∷ ts) (by-value (readFrom st p .state) es)
+    ∙ sym (next st (payload p) (turnOf (readFrom st p)) (reads st p) es)
 by-value st (reporting ∷ es) =
     ap (λ (ts : List (Turn State Contents)). reportOf (missing st) ∷ ts) (by-value (missing st .state) es)
     ∙ sym (next st reporting (reportOf (missing st)) (reports st) es)
 
 pub over-lent : (st : State) (es : List Event) → lentCalls st es ≡ calls st es
 over-lent st [] = refl
-over-lent st (payload b start end ∷ es) =
-    ap (λ (ts : List (Turn State Contents)). turnOf (readFrom st b start end) ∷ ts) (over-lent (readFrom st b start end .state) es)
+over-lent st (payload p ∷ es) =
+    ap (λ (ts : List (Turn State Contents)). turnOf (readFrom st p) ∷ ts) (over-lent (readFrom st p .state) es)
 over-lent st (reporting ∷ es) = ap (λ (ts : List (Turn State Contents)). reportOf (missing st) ∷ ts) (over-lent (missing st .state) es)
 
 -- what an accepted reading from a sound state holds fits its bytes
 record Well (r : Reading) : Type 0 where
+  place : r .place ≡ 0
   bits : r .bits < 4294967296
   contents : ContentsFit (r .contents)
   fitting : StateFits (r .state)
@@ -90,12 +93,13 @@ module _ (st : State) (h : sound st ≡ true) (f : StateFits st) where
   well s = by-answer (whole (payload-reader (from st)) s) refl
     where
       kind : (c : Contents) (n : ℕ) → whole (payload-reader (from st)) s ≡ got c n → (b : Bool)
-          → pick b (record { number = 0; bits = n; contents = c; state = carried (from st) c }) (refusal 35 (lost st)) .number ≡ 0
-          → Well (pick b (record { number = 0; bits = n; contents = c; state = carried (from st) c }) (refusal 35 (lost st)))
+          → pick b (acceptance st c n) (refusal 35 n (lost st)) .number ≡ 0
+          → Well (pick b (acceptance st c n) (refusal 35 n (lost st)))
       kind c n e true z =
           let w = whole-got (payload-reader (from st)) s n c e .0 in
           let g = payload-fits (from st) .law s 0 (8 * length s) n c w in
           record {
+            place = refl;
             bits = few-bits s c n w;
             contents = g;
             fitting = carried-fits (from st) c from-fits g;
@@ -179,51 +183,54 @@ module _ (k : Kept) (w : Keeps k) where
       rw (w .sound, p .state)
       (ap (λ (x : State). record { outcome = reported; state = x }) (lost-bytes (k .state) (omega (arith, p .long))))
 
-  module _ (b : List ℕ) (start end : ℕ) where
+  module _ (p : Range) where
     abbrev event : Event
-    event = payload b start end
+    event = payload p
 
     abbrev r : Reading
-    r = readBytes st (range b start end)
+    r = readBytes st (bytesIn p)
 
     -- a range outside its buffer is judged by the call
-    outside : inBuffer start end (length b) ≡ false → (byteTurn k event ≡ turn stereo st event) × Keeps (keptAfter k event)
-    unfolding stereoNumber stereoStateAfter stereoAnswerAfter stereoCallRefusal
+    outside : isThere p ≡ false → (byteTurn k event ≡ turn stereo st event) × Keeps (keptAfter k event)
+    unfolding stereoReturned stereoStateAfter stereoAnswerAfter
     outside e = (rw e, rw e w)
 
-    module _ (e : inBuffer start end (length b) ≡ true) where
-      called : stereoCallRefusal (k .state) (length b) start end (length (k .answer)) ≡ 0
-      unfolding stereoCallRefusal
-      called = rw (e, le-leb 582 (length (k .answer)) (w .room), w .sound)
+    module _ (e : isThere p ≡ true) where
+      -- past the tests, what comes back and what is kept are the reading's
+      called : Passed (testsOf (callOf k p))
+      called = (e, (le-leb 582 (length (k .answer)) (w .room), (w .sound, tt)))
 
-      number-is : stereoNumber (k .state) b start end (length (k .answer)) ≡ r .number
-      unfolding stereoNumber
-      number-is = rw called
+      comes-back : stereoReturned (callOf k p) ≡ returned (r .number) (r .place)
+      unfolding stereoReturned
+      comes-back = rw (called .0, called .1 .0, called .1 .1 .0)
 
       turn-is : turn stereo st event ≡ turnOf r
       unfolding readFrom
-      turn-is = reads st b start end ∙ rw (e, sound-parts (k .state) (w .sound) .state)
+      turn-is = reads st p ∙ rw (e, sound-parts (k .state) (w .sound) .state)
 
       accepted : r .number ≡ 0 → (byteTurn k event ≡ turnOf r) × Keeps (keptAfter k event)
       unfolding stereoStateAfter stereoAnswerAfter
       accepted z =
           let y = eq-eqb (r .number) 0 z in
-          let p = sound-parts (k .state) (w .sound) in
-          let good = well st (p .state) (state-at-fits (k .state) (w .sound)) (range b start end) z in
+          let q = sound-parts (k .state) (w .sound) in
+          let good = well st (q .state) (state-at-fits (k .state) (w .sound)) (bytesIn p) z in
+          let nothing : stereoReturned (callOf k p) ≡ 0 = comes-back ∙ omega (arith, z, good .place) in
           let bytes = answerBytes (r .bits) (r .contents) in
           let left = drop (length bytes) (k .answer) in
           let front = after-front (k .answer) bytes in (
             rw (
-              number-is,
-              called,
+              nothing,
+              called .0,
+              called .1 .0,
+              called .1 .1 .0,
               y,
               written-back (k .state) (r .state) (good .fitting),
               front,
               contents-back (r .bits) (r .contents) left (good .contents),
               bits-back (r .bits) (r .contents) left (good .bits),
             ),
-            rw (number-is, called, y) (record {
-              sound = written-soundly (k .state) (r .state) (p .long) (good .fitting) (good .sound);
+            rw (called .0, called .1 .0, called .1 .1 .0, y) (record {
+              sound = written-soundly (k .state) (r .state) (q .long) (good .fitting) (good .sound);
               room = no-fewer (k .answer) bytes 582 (w .room);
             }),
           )
@@ -231,11 +238,24 @@ module _ (k : Kept) (w : Keeps k) where
       not-accepted : eqb (r .number) 0 ≡ false → (byteTurn k event ≡ turnOf r) × Keeps (keptAfter k event)
       unfolding stereoStateAfter stereoAnswerAfter
       not-accepted z =
-          let p = sound-parts (k .state) (w .sound) in
-          let t = bytes-touching st (range b start end) (λ q. true-false _ (eq-eqb (r .number) 0 q) z) .0 in
-          let left : r .state ≡ lost st = ap (λ (x : Reading). x .state) t in (
-            rw (number-is, called, z, lost-bytes (k .state) (omega (arith, p .long)), left),
-            rw (number-is, called, z) (record { sound = lost-soundly (k .state) (w .sound); room = w .room }),
+          let q = sound-parts (k .state) (w .sound) in
+          let not-0 : r .number ≡ 0 → ⊥ = λ y. true-false _ (eq-eqb (r .number) 0 y) z in
+          let left : r .state ≡ lost st = ap (λ (x : Reading). x .state) (bytes-touching st (bytesIn p) not-0 .0) in
+          let small = answered-small (r .number) (bytes-answered st (bytesIn p)) in
+          let told : eqb (returned (r .number) (r .place)) 0 ≡ false = ne-eqb (returned (r .number) (r .place)) 0 (λ y. not-0 (omega arith)) in (
+            rw (
+              comes-back,
+              told,
+              number-kept (r .number) (r .place) small,
+              place-kept (r .number) (r .place) small,
+              called .0,
+              called .1 .0,
+              called .1 .1 .0,
+              z,
+              lost-bytes (k .state) (omega (arith, q .long)),
+              left,
+            ),
+            rw (called .0, called .1 .0, called .1 .1 .0, z) (record { sound = lost-soundly (k .state) (w .sound); room = w .room }),
           )
 
       inside : (byteTurn k event ≡ turn stereo st event) × Keeps (keptAfter k event)
@@ -247,12 +267,11 @@ module _ (k : Kept) (w : Keeps k) where
 
   one-call : (e : Event) → (byteTurn k e ≡ turn stereo st e) × Keeps (keptAfter k e)
   one-call reporting = (reported-turn, reported-keeps)
-  one-call (payload b start end) = go (inBuffer start end (length b)) refl
+  one-call (payload p) = go (isThere p) refl
     where
-      go : (t : Bool) → inBuffer start end (length b) ≡ t
-          → (byteTurn k (payload b start end) ≡ turn stereo st (payload b start end)) × Keeps (keptAfter k (payload b start end))
-      go true e = inside b start end e
-      go false e = outside b start end e
+      go : (t : Bool) → isThere p ≡ t → (byteTurn k (payload p) ≡ turn stereo st (payload p)) × Keeps (keptAfter k (payload p))
+      go true e = inside p e
+      go false e = outside p e
 
 -- over bytes: where they stand for a sound state and an answer has room, a run of calls is a run of the machine from that state
 pub over-bytes : (k : Kept) (es : List Event) → soundBytes (k .state) ≡ true → 582 ≤ length (k .answer)
@@ -281,7 +300,7 @@ module _ (s : List ℕ) where
   odd-turn : (k : ℕ) (st : State) → stateBefore s k ≡ st
       → turnOf (stereoIn (stateBefore s k) (bytesOf s k)) ≡ turn stereo st (oddPayload s k)
   unfolding stereoIn
-  odd-turn k st e = rw e (sym (reads st (bytesOf s k) 0 (length (bytesOf s k))))
+  odd-turn k st e = rw e (sym (reads st (rangeIn (bytesOf s k) 0 (length (bytesOf s k)))))
 
   odd-next : (k : ℕ) (es : List Event) (b : Bool) → stateBefore s k ≡ after stereo fresh es
       → pick b (stateBefore s k) (stereoIn (stateBefore s k) (bytesOf s k) .state)

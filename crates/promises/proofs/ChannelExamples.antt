@@ -51,7 +51,17 @@ too-long = refl
 
 -- the first payload of the listing
 listing : Gives 4 (100 ∷ 0 ∷ 0 ∷ [])
-    (record { number = 0; gain = 100; sequence = 0; shape = 0; «max_sfb» = 0; «group_count» = 1; groups = inEight (1 ∷ []); bits = 22 })
+    (record {
+      number = 0;
+      place = 0;
+      gain = 100;
+      sequence = 0;
+      shape = 0;
+      «max_sfb» = 0;
+      «group_count» = 1;
+      groups = inEight (1 ∷ []);
+      bits = 22;
+    })
     []
     []
     []
@@ -84,6 +94,7 @@ short-windows : Gives 4
     41 ∷ 255 ∷ 148 ∷ 87 ∷ 254 ∷ 46 ∷ 213 ∷ 243 ∷ 166 ∷ 129 ∷ 97 ∷ 248 ∷ 204 ∷ 0 ∷ [])
     (record {
       number = 0;
+      place = 0;
       gain = 134;
       sequence = 2;
       shape = 0;
@@ -115,7 +126,17 @@ long-window : Gives 7
     57 ∷ 151 ∷ 64 ∷ 14 ∷ 218 ∷ 91 ∷ 219 ∷ 133 ∷ 44 ∷ 213 ∷ 94 ∷ 43 ∷ 150 ∷ 125 ∷ 167 ∷ 143 ∷ 163 ∷ 76 ∷ 67 ∷ 22 ∷
     156 ∷ 104 ∷ 180 ∷ 121 ∷ 195 ∷ 74 ∷ 106 ∷ 221 ∷ 105 ∷ 197 ∷ 120 ∷ 139 ∷ 99 ∷ 99 ∷ 113 ∷ 61 ∷ 77 ∷ 223 ∷ 82 ∷ 15 ∷
     83 ∷ 91 ∷ 88 ∷ 235 ∷ 55 ∷ 116 ∷ 166 ∷ 173 ∷ 148 ∷ 135 ∷ 232 ∷ 160 ∷ [])
-    (record { number = 0; gain = 129; sequence = 0; shape = 1; «max_sfb» = 47; «group_count» = 1; groups = inEight (1 ∷ []); bits = 883 })
+    (record {
+      number = 0;
+      place = 0;
+      gain = 129;
+      sequence = 0;
+      shape = 1;
+      «max_sfb» = 47;
+      «group_count» = 1;
+      groups = inEight (1 ∷ []);
+      bits = 883;
+    })
     (0 ∷ 0 ∷ 0 ∷ 0 ∷ 0 ∷ 0 ∷ 0 ∷ 0 ∷ 0 ∷ 0 ∷ 0 ∷ 0 ∷ 0 ∷ 0 ∷ 0 ∷ 0 ∷ 0 ∷ 0 ∷ 0 ∷ 0 ∷ 0 ∷ 0 ∷ 0 ∷ 0 ∷ 0 ∷
     0 ∷ 0 ∷ 0 ∷ 0 ∷ 0 ∷ 0 ∷ 0 ∷ 0 ∷ 0 ∷ 0 ∷ 0 ∷ 0 ∷ 0 ∷ 0 ∷ 0 ∷ 0 ∷ 0 ∷ 1 ∷ 4 ∷ 4 ∷ 4 ∷ 11 ∷ [])
     (0 ∷ 0 ∷ 0 ∷ 0 ∷ 0 ∷ 0 ∷ 0 ∷ 0 ∷ 0 ∷ 0 ∷ 0 ∷ 0 ∷ 0 ∷ 0 ∷ 0 ∷ 0 ∷ 0 ∷ 0 ∷ 0 ∷ 0 ∷ 0 ∷ 0 ∷ 0 ∷ 0 ∷ 0 ∷
@@ -198,7 +219,17 @@ long-window = (refl, refl, refl, refl)
 with-pulses : Gives 3
     (177 ∷ 21 ∷ 136 ∷ 208 ∷ 40 ∷ 145 ∷ 101 ∷ 108 ∷ 7 ∷ 3 ∷ 10 ∷ 31 ∷ 8 ∷ 52 ∷ 11 ∷ 104 ∷ 163 ∷ 162 ∷ 198 ∷ 89 ∷
     92 ∷ 210 ∷ 159 ∷ 170 ∷ 106 ∷ 70 ∷ 108 ∷ 14 ∷ 14 ∷ 165 ∷ 167 ∷ 72 ∷ 21 ∷ 0 ∷ [])
-    (record { number = 0; gain = 177; sequence = 0; shape = 1; «max_sfb» = 22; «group_count» = 1; groups = inEight (1 ∷ []); bits = 268 })
+    (record {
+      number = 0;
+      place = 0;
+      gain = 177;
+      sequence = 0;
+      shape = 1;
+      «max_sfb» = 22;
+      «group_count» = 1;
+      groups = inEight (1 ∷ []);
+      bits = 268;
+    })
     (4 ∷ 4 ∷ 4 ∷ 4 ∷ 4 ∷ 4 ∷ 4 ∷ 4 ∷ 4 ∷ 4 ∷ 4 ∷ 4 ∷ 4 ∷ 0 ∷ 0 ∷ 0 ∷ 0 ∷ 0 ∷ 1 ∷ 1 ∷ 1 ∷ 1 ∷ [])
     (177 ∷ 175 ∷ 175 ∷ 175 ∷ 176 ∷ 179 ∷ 179 ∷ 179 ∷ 179 ∷ 179 ∷ 179 ∷ 179 ∷ 179 ∷ 0 ∷ 0 ∷ 0 ∷ 0 ∷ 0 ∷ 175 ∷ 175 ∷
     175 ∷ 175 ∷ [])

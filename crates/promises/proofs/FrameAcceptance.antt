@@ -17,7 +17,8 @@ use Rattle.channel.specs.Stream.{Stream}
 use Rattle.adts.specs.Header.{Header}
 use Rattle.adts.specs.Block.{Block, element, singleChannel, rawBlock}
 use Rattle.adts.specs.Frame.{wholeHeader, fitting, frameHeader, streamIn}
-use Rattle.adts.specs.Promise.{headerAt, streamAt, outputsFit}
+use Rattle.channel.specs.Promise.{Outputs, haveRoom}
+use Rattle.adts.specs.Promise.{headerAt, streamAt}
 use Rattle.adts.proofs.BlockLaws.{element-held, stream-held}
 use Rattle.adts_laws.proofs.FrameCalls.{header-there}
 use Rattle.adts_laws.proofs.Outside.{accepted}
@@ -90,19 +91,19 @@ module _ (index : ℕ) (s : List ℕ) (end : ℕ) where
   parts-of (got b next) q x bits e = let n : b .bits ≡ bits = cc in rw (← n) (block-parts b next q)
 
 -- of the frame at a byte of a file
-module _ (file : List ℕ) (start lines factors books : ℕ) (h : Header) (x : Stream) (bits : ℕ) where
+module _ (file : List ℕ) (start : ℕ) (o : Outputs) (h : Header) (x : Stream) (bits : ℕ) where
   abbrev bytes : List ℕ
   bytes = drop start file
 
   abbrev end : ℕ
   end = 8 * h .length
 
-  pub frame-allowed : FrameAllowed file start lines factors books h x bits
-      → (headerAt file start (outputsFit lines factors books) ≡ got h 56)
-      × (streamAt file start (headerAt file start (outputsFit lines factors books)) ≡ got x bits)
+  pub frame-allowed : FrameAllowed file start o h x bits
+      → (headerAt file start (haveRoom o) ≡ got h 56)
+      × (streamAt file start (headerAt file start (haveRoom o)) ≡ got x bits)
   unfolding headerAt frameHeader fitting
   frame-allowed a =
-      let header : headerAt file start (outputsFit lines factors books) ≡ got h 56 =
+      let header : headerAt file start (haveRoom o) ≡ got h 56 =
       rw (
         le-leb start (length file) (a .inside),
         a .fit,
@@ -113,12 +114,12 @@ module _ (file : List ℕ) (start lines factors books : ℕ) (h : Header) (x : S
       let block = block-there (h .index) bytes end bits x (a .opening) (a .tag .1) (a .read) (a .finish) (a .left) in
       (header, ap (streamAt file start) header ∙ block)
 
-  pub frame-exactly : headerAt file start (outputsFit lines factors books) ≡ got h 56
-      → streamAt file start (headerAt file start (outputsFit lines factors books)) ≡ got x bits
-      → FrameAllowed file start lines factors books h x bits
+  pub frame-exactly : headerAt file start (haveRoom o) ≡ got h 56
+      → streamAt file start (headerAt file start (haveRoom o)) ≡ got x bits
+      → FrameAllowed file start o h x bits
   unfolding frameHeader
   frame-exactly e f =
-      let there = header-there file start (outputsFit lines factors books) h 56 e in
+      let there = header-there file start (haveRoom o) h 56 e in
       let held = accepted (length bytes) (wholeHeader bytes 0 (8 * length bytes)) h 56 (there .2) in
       let block = ap (streamAt file start) (sym e) ∙ f in
       let parts = parts-of (h .index) bytes end (rawBlock (h .index) bytes 56 end) refl x bits block in

@@ -10,52 +10,29 @@ use lib.ListN.{length, drop, getD}
 use lib.Seq.{getD-append-add}
 use Rattle.bits.specs.Bits.{bitsFrom}
 use Rattle.bits.specs.Reader.{got}
-use Rattle.bits.specs.Field.{field}
-use Rattle.bits.specs.Places.{oneField}
 use Rattle.bits.specs.Bytes.{wordOf}
 use Rattle.bits.proofs.FourBytes.{word-back}
-use Rattle.bits.proofs.Gives.{Gives, give-gives, bind-gives, then-gives, field-gives, inside-gives}
 use Rattle.bits.proofs.OverLaws.{over-front}
-use Rattle.bits.proofs.PlacesLaws.{placed-got}
 use Rattle.channel.specs.Stream.{Stream}
 use Rattle.channel.specs.Promise.{accepted}
 use Rattle.channel.specs.declared.Reading.{Reading}
 use Rattle.channel.specs.declared.stream.Head.{Head}
 use Rattle.channel.proofs.StreamNear.{stream-near}
-use Rattle.adts.specs.Header.{Header, only, fixedHalf, variableHalf, header}
+use Rattle.adts.specs.Header.{Header}
 use Rattle.adts.specs.Block.{rawBlock}
-use Rattle.adts.specs.Frame.{wholeHeader, frameHeader}
 use Rattle.adts.specs.Promise.{headerAt, streamAt, framed}
 use Rattle.adts.specs.declared.Framed.{Framed}
 use Rattle.adts.proofs.BlockLaws.{stream-held}
 use Rattle.adts_laws.proofs.FrameCalls.{header-there}
-use Rattle.adts_laws.proofs.Outside.{accepted as judged}
+use Rattle.adts_laws.proofs.FramePlaces.{length-short}
 use Rattle.c_channel.specs.ReadChannel.{channelBytes}
 use Rattle.c_adts.specs.FrameBytes.{frameBytes, frameAnswerAfter}
 use Rattle.promises.specs.AnswerAt.{framedAt}
 use Rattle.promises.proofs.AnswersBack.{reading-back, reading-long}
 
-size-short : Gives (λ n. n < 8192) variableHalf
-unfolding variableHalf
-size-short =
-    then-gives (field 1) λ id.
-    then-gives (field 1) λ start.
-    bind-gives (field-gives 13) λ size h.
-    then-gives (field 11) λ fullness.
-    then-gives (only 0 2) λ blocks. give-gives h
-
-header-short : Gives (λ h. h .length < 8192) header
-unfolding header
-header-short = then-gives fixedHalf λ index. bind-gives size-short λ size h. give-gives h
-
 -- a frame's header, and the stream after it
 frame-short : (file : List ℕ) (start : ℕ) (room : Bool) (h : Header) (next : ℕ) → headerAt file start room ≡ got h next → h .length < 8192
-unfolding frameHeader wholeHeader oneField
-frame-short file start room h next e =
-    let s = drop start file in
-    let there = header-there file start room h next e .2 in
-    let held = judged (length s) (wholeHeader s 0 (8 * length s)) h next there in
-    inside-gives 56 10 header header-short .law s 0 (8 * length s) (held .0) h (placed-got _ 0 (held .0) h (held .1))
+frame-short file start room h next e = length-short (drop start file) h next (header-there file start room h next e .2)
 
 frame-few : (file : List ℕ) (start : ℕ) (h : Header) (next bits : ℕ) (x : Stream) → streamAt file start (got h next) ≡ got x bits
     → bits ≤ 38000

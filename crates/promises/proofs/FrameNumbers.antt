@@ -3,18 +3,19 @@
 -- Assumes nothing.
 use Prim.Native.Nat.{ℕ, _*_, _-_}
 use mathlib.Core.Path.{_≡_, refl, sym, subst}
-use mathlib.Core.List.{List}
+use mathlib.Core.List.{List, [], _∷_}
 use mathlib.Core.Logic.{_≢_}
 use mathlib.Core.Bool.{Bool, true, false, _&&_}
-use lib.Dec.{eqb, leb}
+use lib.Dec.{leb}
 use lib.ListN.{length, drop}
 use borrow.Author.Tests.{ne-eqb}
 use Rattle.bits.specs.Reader.{Answer, got, refused, Reader, give, pick, _>>=_}
 use Rattle.bits.specs.Field.{field}
-use Rattle.bits.specs.Payload.{inBuffer, ended}
+use Rattle.bits.specs.Payload.{Range, isThere, ended}
+use Rattle.bits.specs.Calls.{_or_, firstRefusal}
 use Rattle.bits.specs.Places.{here}
 use Rattle.bits.proofs.Bools.{true-false}
-use Rattle.bits.proofs.Lawful.{never}
+use Rattle.bits.proofs.Lawful.{not-refused}
 use Rattle.bits.proofs.Numbered.{Numbered, give-numbered, here-numbered, field-numbered, bind-numbered}
 use Rattle.bits.proofs.Numbered.{expecting-numbered, oneField-numbered, inside-numbered}
 use Rattle.channel.specs.Stream.{Stream, stream}
@@ -26,14 +27,10 @@ use Rattle.adts.specs.Wrapping.{frameLength}
 use Rattle.adts.specs.Promise.{headerAt, streamAt, framed, fitted, unwrapped, wrappable, wrappedOf, wrappedBytes}
 use Rattle.bits.specs.Packed.{bytesFor}
 use Rattle.c_adts.specs.FrameBytes.{frameAnswerAfter}
-use Rattle.c_adts.specs.WrapStream.{wrapCall, wrapAnswerAfter}
+use Rattle.c_adts.specs.WrapStream.{Call, wrapCall, wrapAnswerAfter}
 use Rattle.promises.specs.Refusals.{isRefusal, isAnswered}
 use Rattle.promises.proofs.ChannelNumbers.{stream-own}
 use Rattle.promises.proofs.Refusals.{stream-told, refused-answered, channel-refusals}
-
--- no accepted answer is a refusal
-not-refused : {A : Type 0} {B : Type 0} {a : A} {m n p : ℕ} → got a m ≡ refused n p → B
-not-refused e = never (sym e)
 
 -- the same refusal has the same number
 is-told : {A : Type 0} {m n p q : ℕ} → isRefusal m ≡ true → _≡_ {A = Answer A} (refused m p) (refused n q) → isRefusal n ≡ true
@@ -150,9 +147,9 @@ pub unwrap-refusals : (file : List ℕ) (start : ℕ) (fit : Bool) (room n p : �
     → fitted bytesFor room (streamAt file start (headerAt file start fit)) ≡ refused n p → isRefusal n ≡ true
 unwrap-refusals file start fit room = fitted-told bytesFor room _ (frame-refusals file start fit)
 
-pub wrap-refusals : (buf : List ℕ) (start end index room n p : ℕ) → wrappable buf start end index room ≡ refused n p → isRefusal n ≡ true
+pub wrap-refusals : (q : Range) (index room n p : ℕ) → wrappable q index room ≡ refused n p → isRefusal n ≡ true
 unfolding wrappable
-wrap-refusals buf start end index room = fitted-told frameLength room _ (channel-refusals buf start end index 1024 120 120)
+wrap-refusals q index room = fitted-told frameLength room _ (channel-refusals q index true)
 
 -- an answer whose number is 0 has a stream
 pub taken : (x : Answer Stream) → ((n p : ℕ) → x ≡ refused n p → isRefusal n ≡ true) → readingOf x .number ≡ 0
@@ -161,7 +158,7 @@ taken (got s bits) f e = (s, bits, refl)
 taken (refused n p) f e = absurd (true-false (isRefusal n) (f n p refl) (subst (λ (k : ℕ). isRefusal k ≡ false) (sym e) refl))
 
 -- demand 1: the number of a call is 0 or a refusal of the table
-answered : (x : Answer Stream) → ((n p : ℕ) → x ≡ refused n p → isRefusal n ≡ true) → isAnswered (readingOf x .number) ≡ true
+pub answered : (x : Answer Stream) → ((n p : ℕ) → x ≡ refused n p → isRefusal n ≡ true) → isAnswered (readingOf x .number) ≡ true
 answered (got s bits) f = refl
 answered (refused n p) f = refused-answered n (f n p refl)
 
@@ -177,21 +174,23 @@ wrapped-answered : (x : Answer Stream) → ((n p : ℕ) → x ≡ refused n p �
 wrapped-answered (got s bits) f = refl
 wrapped-answered (refused n p) f = refused-answered n (f n p refl)
 
-pub wrap-answered : (buf : List ℕ) (start end index room : ℕ) → isAnswered (wrappedOf (wrappable buf start end index room) .number) ≡ true
-wrap-answered buf start end index room = wrapped-answered _ (wrap-refusals buf start end index room)
+pub wrap-answered : (q : Range) (index room : ℕ) → isAnswered (wrappedOf (wrappable q index room) .number) ≡ true
+wrap-answered q index room = wrapped-answered _ (wrap-refusals q index room)
 
 -- for C the answer's room is judged with the outputs, or after the range
-pub wrap-call-answered : (buf : List ℕ) (start end index out room : ℕ)
-    → isAnswered (wrappedOf (wrapCall buf start end index out room) .number) ≡ true
+pub wrap-call-refusals : (c : Call) (n p : ℕ) → wrapCall c ≡ refused n p → isRefusal n ≡ true
 unfolding wrapCall
-wrap-call-answered buf start end index out room = wrapped-answered _ (by-tests (inBuffer start end (length buf)) (leb 4 room))
+wrap-call-refusals c n p = by-tests (isThere (c .payload)) (leb 4 (length (c .answer)))
   where
-    by-tests : (a b : Bool) (n p : ℕ)
-        → pick (eqb (pick a (pick b 0 2) 1) 0) (wrappable buf start end index out) (refused (pick a (pick b 0 2) 1) 0) ≡ refused n p
+    by-tests : (a b : Bool)
+        → firstRefusal (a or 1 ∷ b or 2 ∷ []) (λ m. refused m 0) (wrappable (c .payload) (c .index) (length (c .out))) ≡ refused n p
         → isRefusal n ≡ true
-    by-tests true true n p e = wrap-refusals buf start end index out n p e
-    by-tests true false n p e = is-told refl e
-    by-tests false b n p e = is-told refl e
+    by-tests true true e = wrap-refusals (c .payload) (c .index) (length (c .out)) n p e
+    by-tests true false e = is-told refl e
+    by-tests false b e = is-told refl e
+
+pub wrap-call-answered : (c : Call) → isAnswered (wrappedOf (wrapCall c) .number) ≡ true
+wrap-call-answered c = wrapped-answered (wrapCall c) (wrap-call-refusals c)
 
 -- and one that is refused leaves what was lent
 pub unwrap-untouched : (bytes : List ℕ) (x : Answer Stream) → readingOf x .number ≢ 0 → (old : List ℕ) → unwrapped bytes x old ≡ old

@@ -5,23 +5,21 @@ use Prim.Native.Nat.{ℕ, _≤_}
 use mathlib.Core.Path.{_≡_, refl, sym, _∙_, ap}
 use mathlib.Core.List.{List}
 use mathlib.Core.Bool.{Bool, true}
-use lib.IntN.{ℤ}
 use lib.ListN.{length, drop}
 use borrow.Author.Tests.{le-leb}
 use Rattle.bits.specs.Reader.{Answer, got, refused}
 use Rattle.bits.specs.Bytes.{over}
 use Rattle.bits.specs.Packed.{bytesFor}
-use Rattle.bits.specs.Payload.{range}
+use Rattle.bits.specs.Payload.{range, rangeIn}
 use Rattle.bits.proofs.Lawful.{never}
 use Rattle.channel.specs.Stream.{Stream}
-use Rattle.channel.specs.Promise.{channelCallRefusal, channel, accepted, readingOf, linesAfter, factorsAfter, booksAfter}
-use Rattle.channel.specs.Promise.{ReadChannelPromise}
+use Rattle.channel.specs.Promise.{Outputs, haveRoom, channel, accepted, readingOf, outputsAfter, ReadChannelPromise}
 use Rattle.channel.specs.declared.Reading.{Reading}
 use Rattle.channel.specs.declared.stream.Head.{Head}
 use Rattle.adts.specs.Header.{Header}
 use Rattle.adts.specs.Cut.{cutOut}
 use Rattle.adts.specs.Wrapping.{frameLength}
-use Rattle.adts.specs.Promise.{headerAt, streamAt, framed, outputsFit, wrappable, wrappedOf, wrappedBytes}
+use Rattle.adts.specs.Promise.{headerAt, streamAt, framed, wrappable, wrappedOf, wrappedBytes}
 use Rattle.adts.specs.Promise.{ReadFramePromise, UnwrapPromise, WrapPromise}
 use Rattle.adts.specs.declared.Framed.{Framed}
 use Rattle.adts.specs.declared.Wrapped.{Wrapped}
@@ -30,13 +28,6 @@ use Rattle.adts_laws.proofs.FrameCalls.{fitted-held, header-there, wrapped-head
 use Rattle.adts_laws.proofs.FrameCalls.{unwrapped-accepted}
 use Rattle.promises.proofs.FrameNumbers.{frame-refusals, wrap-refusals, taken}
 use Rattle.promises.specs.Refusals.{isRefusal}
-
--- outputs that a stream fits are all the same to the channel's reader
-fit-channel : (buf : List ℕ) (start end index : ℕ) (lines : List ℤ) (factors books : List ℕ)
-    → outputsFit (length lines) (length factors) (length books) ≡ true
-    → channel buf start end index (length lines) (length factors) (length books) ≡ channel buf start end index 1024 120 120
-unfolding channel channelCallRefusal
-fit-channel buf start end index lines factors books e = rw e
 
 -- the answer to a frame that is accepted
 abbrev framedWith : ℕ → ℕ → Reading → Framed
@@ -48,13 +39,17 @@ wrapped-taken : (x : Answer Stream) → ((n p : ℕ) → x ≡ refused n p → i
 wrapped-taken (got s bits) f e = (s, bits, refl)
 wrapped-taken (refused n p) f e = taken (refused n p) f e
 
+-- streams with the same numbers leave the same outputs
+same-outputs : {y x : Stream} (bits : ℕ) → SameNumbers y x → (o : Outputs) → outputsAfter (got y bits) o ≡ outputsAfter (got x bits) o
+same-outputs bits s o = rw (s .lines, s .factors, s .books)
+
 -- wrap, then read and unwrap
-module _ (buf : List ℕ) (start end index : ℕ) (out : List ℕ) (w : Wrapped) (out′ : List ℕ) (p : WrapPromise buf start end index out w out′)
-    (ok : w .number ≡ 0) where
+module _ (buf : List ℕ) (start end index : ℕ) (out : List ℕ) (w : Wrapped) (out′ : List ℕ)
+    (p : WrapPromise (record { payload = rangeIn buf start end; index = index; out = out }) w out′) (ok : w .number ≡ 0) where
   -- the stream that was wrapped
-  held : (x : Stream) × (bits : ℕ) × (wrappable buf start end index (length out) ≡ got x bits)
+  held : (x : Stream) × (bits : ℕ) × (wrappable (rangeIn buf start end) index (length out) ≡ got x bits)
   held =
-      wrapped-taken (wrappable buf start end index (length out)) (wrap-refusals buf start end index (length out))
+      wrapped-taken (wrappable (rangeIn buf start end) index (length out)) (wrap-refusals (rangeIn buf start end) index (length out))
       (sym (ap (λ (v : Wrapped). v .number) (p .0)) ∙ ok)
 
   abbrev x : Stream
@@ -73,36 +68,24 @@ module _ (buf : List ℕ) (start end index : ℕ) (out : List ℕ) (w : Wrapped)
       let size = ap (λ (v : Wrapped). v .length) (p .0 ∙ ap wrappedOf (held .2)) in
       ap (framedWith index (frameLength bits)) (ap (λ (h : Head). accepted h bits) e ∙ f) ∙ ap (λ (n : ℕ). framedWith index n r) (sym size)
 
-  own : channel buf start end index 1024 120 120 ≡ got x bits
+  own : channel (rangeIn buf start end) index true ≡ got x bits
   unfolding wrappable
-  own = fitted-held frameLength (length out) (channel buf start end index 1024 120 120) x bits (held .2) .0
+  own = fitted-held frameLength (length out) (channel (rangeIn buf start end) index true) x bits (held .2) .0
 
   -- the stream's numbers, index and bit count, as the channel's reader gives them, and the frame's length
-  module _ (lines : List ℤ) (factors books : List ℕ) (fits : outputsFit (length lines) (length factors) (length books) ≡ true) (r : Reading)
-      (ls′ : List ℤ) (fs′ bs′ : List ℕ) (c : ReadChannelPromise buf start end index lines factors books r ls′ fs′ bs′) where
-    channel-gives : (r ≡ accepted (x .head) bits)
-        × (ls′ ≡ linesAfter (got x bits) lines)
-        × (fs′ ≡ factorsAfter (got x bits) factors)
-        × (bs′ ≡ booksAfter (got x bits) books)
-    channel-gives =
-        let e = fit-channel buf start end index lines factors books fits ∙ own in
-        let g = rw e at c in
-        (g .0, g .1 .0, g .1 .1 .0, g .1 .1 .1)
+  module _ (o : Outputs) (fits : haveRoom o ≡ true) (r : Reading) (o′ : Outputs)
+      (c : ReadChannelPromise (record { payload = rangeIn buf start end; index = index; outputs = o }) r o′) where
+    channel-gives : (r ≡ accepted (x .head) bits) × (o′ ≡ outputsAfter (got x bits) o)
+    channel-gives = let e = ap (channel (rangeIn buf start end) index) fits ∙ own in rw e at c
 
-    pub wrap-read : (q : Framed) (ls : List ℤ) (fs bs : List ℕ) → ReadFramePromise out′ 0 lines factors books q ls fs bs
-        → (q ≡ record { index = index; length = w .length; reading = r }) × (ls ≡ ls′) × (fs ≡ fs′) × (bs ≡ bs′)
-    wrap-read q ls fs bs f =
-        let file = wrappedBytes index (range buf start end) (got x bits) out in
+    pub wrap-read : (q : Framed) (o″ : Outputs) → ReadFramePromise (record { file = out′; start = 0; outputs = o }) q o″
+        → (q ≡ record { index = index; length = w .length; reading = r }) × (o″ ≡ o′)
+    wrap-read q o″ f =
         let h = wrapped-header-read buf start end index out x bits (held .2) in
         let s = wrapped-stream-read buf start end index out x bits (held .2) in
-        let o = s .2 in
         let g = rw (there, fits, s .1, h) at f in
-        let k = channel-gives in (
-          g .0 ∙ same-answer (o .head) (sym (k .0)),
-          g .1 .0 ∙ rw (o .lines) (sym (k .1)),
-          g .1 .1 .0 ∙ rw (o .factors) (sym (k .2)),
-          g .1 .1 .1 ∙ rw (o .books) (sym (k .3)),
-        )
+        let k = channel-gives in
+        (g .0 ∙ same-answer (s .2 .head) (sym (k .0)), g .1 ∙ same-outputs bits (s .2) o ∙ sym (k .1))
 
     -- exactly the bits that it used
     pub wrap-unwrap : (back : List ℕ) → bytesFor (r .bits) ≤ length back → (u : Framed) (back′ : List ℕ) → UnwrapPromise out′ 0 back u back′
@@ -130,10 +113,10 @@ header-of file start (got g next) x bits e = (g, next, refl)
 header-of file start (refused n p) x bits e = never e
 
 -- read, then unwrap: the two agree, and what unwrapping gives is accepted by the channel's reader with the same numbers
-module _ (file : List ℕ) (start : ℕ) (lines : List ℤ) (factors books : List ℕ) (q : Framed) (ls : List ℤ) (fs bs : List ℕ)
-    (f : ReadFramePromise file start lines factors books q ls fs bs) (ok : q .reading .number ≡ 0) where
+module _ (file : List ℕ) (start : ℕ) (o : Outputs) (q : Framed) (o′ : Outputs)
+    (f : ReadFramePromise (record { file = file; start = start; outputs = o }) q o′) (ok : q .reading .number ≡ 0) where
   abbrev fit : Bool
-  fit = outputsFit (length lines) (length factors) (length books)
+  fit = haveRoom o
 
   stream-there : (x : Stream) × (bits : ℕ) × (streamAt file start (headerAt file start fit) ≡ got x bits)
   stream-there =
@@ -147,10 +130,8 @@ module _ (file : List ℕ) (start : ℕ) (lines : List ℤ) (factors books : Lis
   fits = header-there file start fit (header-is .0) (header-is .1) (header-is .2) .1
 
   answers : (q ≡ framedWith (header-is .0 .index) (header-is .0 .length) (accepted (stream-there .0 .head) (stream-there .1)))
-      × (ls ≡ linesAfter (got (stream-there .0) (stream-there .1)) lines)
-      × (fs ≡ factorsAfter (got (stream-there .0) (stream-there .1)) factors)
-      × (bs ≡ booksAfter (got (stream-there .0) (stream-there .1)) books)
-  answers = let g = rw (stream-there .2, header-is .2) at f in (g .0, g .1 .0, g .1 .1 .0, g .1 .1 .1)
+      × (o′ ≡ outputsAfter (got (stream-there .0) (stream-there .1)) o)
+  answers = rw (stream-there .2, header-is .2) at f
 
   header-true : headerAt file start true ≡ got (header-is .0) (header-is .1)
   header-true = rw (← fits) (header-is .2)
@@ -168,7 +149,7 @@ module _ (file : List ℕ) (start : ℕ) (lines : List ℤ) (factors books : Lis
     cut = over out 0 (cutOut (drop start file) 63 (stream-there .1))
 
     as-payload : (y : Stream)
-        × (channel cut 0 (bytesFor (stream-there .1)) (header-is .0 .index) 1024 120 120 ≡ got y (stream-there .1))
+        × (channel (rangeIn cut 0 (bytesFor (stream-there .1))) (header-is .0 .index) true ≡ got y (stream-there .1))
         × SameNumbers y (stream-there .0)
     as-payload =
         unwrapped-accepted file start true (header-is .0) (header-is .1) header-true out (stream-there .0) (stream-there .1) stream-true
@@ -182,23 +163,20 @@ module _ (file : List ℕ) (start : ℕ) (lines : List ℤ) (factors books : Lis
     pub unwrap-agrees : u ≡ q
     unwrap-agrees = unwraps .0
 
-    pub unwrap-read : (r : Reading) (ls′ : List ℤ) (fs′ bs′ : List ℕ)
-        → ReadChannelPromise out′ 0 (bytesFor (q .reading .bits)) (q .index) lines factors books r ls′ fs′ bs′
-        → (r ≡ q .reading) × (ls′ ≡ ls) × (fs′ ≡ fs) × (bs′ ≡ bs)
-    unwrap-read r ls′ fs′ bs′ c =
+    pub unwrap-read : (r : Reading) (o″ : Outputs)
+        → ReadChannelPromise (record { payload = rangeIn out′ 0 (bytesFor (q .reading .bits)); index = q .index; outputs = o }) r o″
+        → (r ≡ q .reading) × (o″ ≡ o′)
+    unwrap-read r o″ c =
         let a = as-payload in
-        let e = fit-channel _ 0 (bytesFor (stream-there .1)) (header-is .0 .index) lines factors books fits ∙ a .1 in
-        let g = rw (answers .0, unwraps .1, e) at c in
-        let o = a .2 in (
-          g .0 ∙ ap (λ (h : Head). accepted h (stream-there .1)) (o .head) ∙ sym (ap (λ (v : Framed). v .reading) (answers .0)),
-          g .1 .0 ∙ rw (o .lines) (sym (answers .1)),
-          g .1 .1 .0 ∙ rw (o .factors) (sym (answers .2)),
-          g .1 .1 .1 ∙ rw (o .books) (sym (answers .3)),
+        let e = ap (channel (rangeIn cut 0 (bytesFor (stream-there .1))) (header-is .0 .index)) fits ∙ a .1 in
+        let g = rw (answers .0, unwraps .1, e) at c in (
+          g .0 ∙ ap (λ (h : Head). accepted h (stream-there .1)) (a .2 .head) ∙ sym (ap (λ (v : Framed). v .reading) (answers .0)),
+          g .1 ∙ same-outputs (stream-there .1) (a .2) o ∙ sym (answers .1),
         )
 
     -- wrapped again where there is room, it reads the same
     module _ (again : List ℕ) (w : Wrapped) (again′ : List ℕ)
-        (c : WrapPromise out′ 0 (bytesFor (q .reading .bits)) (q .index) again w again′) where
+        (c : WrapPromise (record { payload = rangeIn out′ 0 (bytesFor (q .reading .bits)); index = q .index; out = again }) w again′) where
       pub again-wraps : frameLength (q .reading .bits) ≤ length again → w .number ≡ 0
       unfolding wrappable
       again-wraps l =
@@ -207,20 +185,13 @@ module _ (file : List ℕ) (start : ℕ) (lines : List ℤ) (factors books : Lis
           let g = rw (answers .0, unwraps .1, a .1, le-leb (frameLength (stream-there .1)) (length again) fits-again) at c in
           ap (λ (v : Wrapped). v .number) (g .0)
 
-      pub again-reads : w .number ≡ 0 → (q′ : Framed) (ls′ : List ℤ) (fs′ bs′ : List ℕ)
-          → ReadFramePromise again′ 0 lines factors books q′ ls′ fs′ bs′
-          → (q′ ≡ record { index = q .index; length = w .length; reading = q .reading }) × (ls′ ≡ ls) × (fs′ ≡ fs) × (bs′ ≡ bs)
-      again-reads ok′ q′ ls′ fs′ bs′ d =
+      pub again-reads : w .number ≡ 0 → (q′ : Framed) (o″ : Outputs)
+          → ReadFramePromise (record { file = again′; start = 0; outputs = o }) q′ o″
+          → (q′ ≡ record { index = q .index; length = w .length; reading = q .reading }) × (o″ ≡ o′)
+      again-reads ok′ q′ o″ d =
           let n = bytesFor (q .reading .bits) in
-          let x = channel out′ 0 n (q .index) (length lines) (length factors) (length books) in
-          let ls = linesAfter x lines in
-          let fs = factorsAfter x factors in
-          let bs = booksAfter x books in
-          let own = unwrap-read (readingOf x) ls fs bs (refl, (refl, (refl, refl))) in
-          let read = wrap-read out′ 0 n (q .index) again w again′ c ok′ lines factors books fits (readingOf x) ls fs bs in
-          let g = read (refl, (refl, (refl, refl))) q′ ls′ fs′ bs′ d in (
-            g .0 ∙ ap (λ (r : Reading). framedWith (q .index) (w .length) r) (own .0),
-            g .1 ∙ own .1,
-            g .2 ∙ own .2,
-            g .3 ∙ own .3,
-          )
+          let x = channel (rangeIn out′ 0 n) (q .index) (haveRoom o) in
+          let own = unwrap-read (readingOf x) (outputsAfter x o) (refl, refl) in
+          let read = wrap-read out′ 0 n (q .index) again w again′ c ok′ o fits (readingOf x) (outputsAfter x o) in
+          let g = read (refl, refl) q′ o″ d in
+          (g .0 ∙ ap (λ (r : Reading). framedWith (q .index) (w .length) r) (own .0), g .1 ∙ own .1)

@@ -17,9 +17,12 @@ pub mod OverBytes
 pub mod CallRuns
 pub mod Bench
 pub mod StereoExamples
+pub mod PlaceExamples
 pub mod Published
 pub mod ChannelExamples
 pub mod ChannelNumbers
 pub mod ImageCut
 pub mod Refusals
+pub mod Places
+pub mod Returned
 pub mod Untouched

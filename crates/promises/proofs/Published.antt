@@ -6,6 +6,7 @@ use mathlib.Core.List.{List, [], _∷_}
 use lib.IntN.{pos, negsuc}
 use lib.ListN.{getD}
 use Rattle.bits.specs.Lists.{padded}
+use Rattle.bits.specs.Payload.{rangeIn}
 use Rattle.stereo_indices.specs.Rows.{noRow}
 use Rattle.stereo.specs.State.{fresh}
 use Rattle.stereo.specs.Extension.{noPhases}
@@ -23,7 +24,7 @@ bytes =
     ∷ 216 ∷ 143 ∷ 115 ∷ 72 ∷ 170 ∷ 106 ∷ 84 ∷ 125 ∷ 140 ∷ 172 ∷ 167 ∷ 68 ∷ 34 ∷ 17 ∷ 5 ∷ 114 ∷ 68 ∷ 34 ∷ []
 
 abbrev reading : Reading
-reading = readFrom fresh bytes 0 124
+reading = readFrom fresh (rangeIn bytes 0 124)
 
 -- the refusal, the bits, the envelopes, the extension's size, esc_count, its phase flag, and how many fill bits
 abbrev numbers : Reading → List ℕ

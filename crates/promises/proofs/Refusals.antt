@@ -1,22 +1,23 @@
 -- Every number that comes back is 0 or a refusal of the table. A call's number is picked by tests, so that each choice is looked at.
 -- Assumes nothing.
-use Prim.Native.Nat.{ℕ, _+_, _*_}
+use Prim.Native.Nat.{ℕ, _+_, _*_, _<_}
 use mathlib.Core.Path.{_≡_, refl, subst}
-use mathlib.Core.List.{List}
-use mathlib.Core.Bool.{Bool, true, false, _&&_, _||_}
+use mathlib.Core.List.{List, [], _∷_}
+use mathlib.Core.Bool.{Bool, true, false, _||_}
 use lib.Dec.{eqb, leb, ltb}
 use lib.ListN.{length}
 use Rattle.bits.specs.Reader.{Answer, got, refused, pick}
 use Rattle.bits.specs.Bits.{bitsFrom}
 use Rattle.bits.specs.Field.{field}
 use Rattle.bit_reader.specs.Took.{lastPlace, tookOf, tookAt}
-use Rattle.bits.specs.Payload.{inBuffer, range, whole}
+use Rattle.bits.specs.Payload.{Range, isThere, bytesIn, whole}
 use Rattle.bits.specs.Lists.{oneOf}
 use Rattle.bits.specs.Sampling.{knownIndex}
-use Rattle.bits.specs.Calls.{callRefusal}
-use Rattle.bits.proofs.Numbered.{one-of}
+use Rattle.bits.specs.Calls.{_or_, firstRefusal}
+use Rattle.bits.proofs.Numbered.{Pass, one-of}
+use borrow.Author.Tests.{ltb-true}
 use Rattle.channel.specs.Stream.{Stream, stream}
-use Rattle.channel.specs.Promise.{channelCallRefusal, channel, readingOf}
+use Rattle.channel.specs.Promise.{haveRoom, channel, readingOf}
 use Rattle.stereo.specs.State.{sound}
 use Rattle.stereo.specs.Restart.{restart}
 use Rattle.stereo.specs.Payload.{payload}
@@ -26,7 +27,7 @@ use Rattle.stereo_reader.specs.Reading.{from, taken, readBytes, readFrom, missi
 use Rattle.stereo_reader.specs.Reading as reading
 use Rattle.stereo_reader.specs.declared.Reading.{Reading}
 use Rattle.stereo_reader.specs.declared.Report.{Report}
-use Rattle.stereo_writer.specs.Writing.{canWrite, written, writing}
+use Rattle.stereo_writer.specs.Writing.{canWrite, writing}
 use Rattle.stereo_writer.specs.declared.Written.{Written}
 use Rattle.stereo_writer.specs.Spelling.{spelling}
 use Rattle.bits.specs.Pieces.{total}
@@ -38,12 +39,11 @@ use Rattle.image.specs.Image.{countOf, indexOf, soundImage, headerOf, partOf}
 use Rattle.image_outline.specs.Outline.{outlineOf}
 use Rattle.c_layout.specs.StateBytes.{stateAt, soundBytes}
 use Rattle.c_layout.specs.ContentsBytes.{contentsAt}
-use Rattle.c_channel.specs.ReadChannel.{channelCall}
+use Rattle.c_channel.specs.ReadChannel as channelC
 use Rattle.c_stereo.specs.StateCalls.{freshNumber, missingNumber}
-use Rattle.c_stereo.specs.ReadStereo.{stereoCallRefusal, stereoReading, stereoNumber}
-use Rattle.c_writer.specs.WriteStereo.{writeCallRefusal, stereoWriting, writeNumber}
+use Rattle.c_writer.specs.WriteStereo as writeC
 use Rattle.c_image.specs.ImageCalls.{imageNumber, partNumber}
-use Rattle.promises.specs.Refusals.{streamRefusals, isRefusal, isAnswered}
+use Rattle.promises.specs.Refusals.{streamRefusals, refusals, isRefusal, isAnswered}
 use Rattle.promises.proofs.ChannelNumbers.{stream-numbers}
 
 -- a stream's own numbers are of the table
@@ -57,19 +57,20 @@ pub never-0 : isRefusal 0 ≡ false
 never-0 = refl
 
 -- demand 1, of a channel stream: a refusal is a number of the table, and so it is not 0
-pub channel-refusals : (buf : List ℕ) (start end index lines factors books n p : ℕ)
-    → channel buf start end index lines factors books ≡ refused n p → isRefusal n ≡ true
-unfolding channel channelCallRefusal
-channel-refusals buf start end index lines factors books n p =
-    by-tests (inBuffer start end (length buf)) (leb 1024 lines && leb 120 factors && leb 120 books) (knownIndex index)
+pub channel-refusals : (q : Range) (index : ℕ) (room : Bool) (n p : ℕ) → channel q index room ≡ refused n p → isRefusal n ≡ true
+unfolding channel
+channel-refusals q index room n p = by-tests (isThere q) room (knownIndex index)
   where
+    first : (m : ℕ) → isRefusal m ≡ true → _≡_ {A = Answer Stream} (refused m 0) (refused n p) → isRefusal n ≡ true
+    first m o e = let z : m ≡ n = cc in subst (λ (k : ℕ). isRefusal k ≡ true) z o
+
     by-tests : (a b c : Bool)
-        → pick (eqb (pick a (pick b (pick c 0 3) 2) 1) 0) (whole (stream index) (range buf start end))
-        (refused (pick a (pick b (pick c 0 3) 2) 1) 0) ≡ refused n p → isRefusal n ≡ true
-    by-tests true true true e = stream-told n (stream-numbers index (range buf start end) n p e)
-    by-tests true true false e = let z : 3 ≡ n = cc in subst (λ (k : ℕ). isRefusal k ≡ true) z refl
-    by-tests true false c e = let z : 2 ≡ n = cc in subst (λ (k : ℕ). isRefusal k ≡ true) z refl
-    by-tests false b c e = let z : 1 ≡ n = cc in subst (λ (k : ℕ). isRefusal k ≡ true) z refl
+        → firstRefusal (a or 1 ∷ b or 2 ∷ c or 3 ∷ []) (λ m. refused m 0) (whole (stream index) (bytesIn q)) ≡ refused n p
+        → isRefusal n ≡ true
+    by-tests true true true e = stream-told n (stream-numbers index (bytesIn q) n p e)
+    by-tests true true false e = first 3 refl e
+    by-tests true false c e = first 2 refl e
+    by-tests false b c e = first 1 refl e
 
 -- a number that tests pick is answered where each of those that it is picked of is
 picked : {A : Type 0} (number : A → ℕ) (b : Bool) (x y : A) → isAnswered (number x) ≡ true → isAnswered (number y) ≡ true
@@ -87,6 +88,73 @@ refused-answered n e = by-zero (eqb n 0)
     by-zero true = refl
     by-zero false = e
 
+-- a number that comes back is below 256
+pub answered-small : (n : ℕ) → isAnswered n ≡ true → n < 256
+answered-small n e = ltb-true n 256 (one-of (λ m. ltb m 256) (0 ∷ refusals) passes n e)
+  where
+    passes : Pass (λ m. ltb m 256) (0 ∷ refusals)
+    passes = (
+      refl,
+      (
+        refl,
+        (
+          refl,
+          (
+            refl,
+            (
+              refl,
+              (
+                refl,
+                (
+                  refl,
+                  (
+                    refl,
+                    (
+                      refl,
+                      (
+                        refl,
+                        (
+                          refl,
+                          (
+                            refl,
+                            (
+                              refl,
+                              (
+                                refl,
+                                (
+                                  refl,
+                                  (
+                                    refl,
+                                    (
+                                      refl,
+                                      (
+                                        refl,
+                                        (
+                                          refl,
+                                          (
+                                            refl,
+                                            (refl, (refl, (refl, (refl, (refl, (refl, (refl, tt))))))),
+                                          ),
+                                        ),
+                                      ),
+                                    ),
+                                  ),
+                                ),
+                              ),
+                            ),
+                          ),
+                        ),
+                      ),
+                    ),
+                  ),
+                ),
+              ),
+            ),
+          ),
+        ),
+      ),
+    )
+
 -- a stereo payload's own numbers are of the table
 payload-told : (n : ℕ) → oneOf payloadRefusals n ≡ true → isRefusal n ≡ true
 payload-told = one-of isRefusal payloadRefusals (refl, (refl, (refl, (refl, (refl, (refl, (refl, tt)))))))
@@ -101,25 +169,23 @@ module _ (st : State) where
       by-answer (got c bits) e = picked (λ (r : Reading). r .number) (st .instep || restart c) _ _ refl refl
       by-answer (refused n p) e = refused-answered n (payload-told n (whole-own (from st) s n p e))
 
-  pub stereo-answered : (b : List ℕ) (start end : ℕ) → isAnswered (readFrom st b start end .number) ≡ true
+  pub stereo-answered : (p : Range) → isAnswered (readFrom st p .number) ≡ true
   unfolding readFrom
-  stereo-answered b start end =
-      picked (λ (r : Reading). r .number) (inBuffer start end (length b)) _ _
-      (picked (λ (r : Reading). r .number) (sound st) _ _ (bytes-answered (range b start end)) refl) refl
+  stereo-answered p =
+      picked (λ (r : Reading). r .number) (isThere p) _ _
+      (picked (λ (r : Reading). r .number) (sound st) _ _ (bytes-answered (bytesIn p)) refl) refl
 
   pub report-answered : isAnswered (missing st .number) ≡ true
   unfolding missing
   report-answered = picked (λ (r : Report). r .number) (sound st) _ _ refl refl
-
-  room-answered : (c : Contents) (room : ℕ) → isAnswered (written st c room .number) ≡ true
-  room-answered c room = picked (λ (w : Written). w .number) (leb (bytesFor (total (spelling (from st) c))) room) _ _ refl refl
 
   pub writing-answered : (c : Contents) (room : ℕ) → isAnswered (writing st c room .number) ≡ true
   unfolding writing
   writing-answered c room =
       picked (λ (w : Written). w .number) (sound st) _ _
       (picked (λ (w : Written). w .number) (canWrite (from st) c) _ _
-      (picked (λ (w : Written). w .number) (st .instep || restart c) _ _ (room-answered c room) refl) refl)
+      (picked (λ (w : Written). w .number) (st .instep || restart c) _ _
+      (picked (λ (w : Written). w .number) (leb (bytesFor (total (spelling (from st) c))) room) _ _ refl refl) refl) refl)
       refl
 
 -- of the bit reader
@@ -150,39 +216,22 @@ pub outline-answered : (s : List ℕ) (room : ℕ) → isAnswered (outlineOf s r
 unfolding outlineOf
 outline-answered s room =
     picked (λ (h : Header). h .number) (soundImage s) _ _
-    (picked (λ (h : Header). h .number) (leb (4 * countOf s) room) _ _ (header-answered s) refl) refl
+    (picked (λ (h : Header). h .number) (leb (5 * countOf s) room) _ _ (header-answered s) refl) refl
 
--- of the functions for C
-call-answered : (size start end need room : ℕ) → isAnswered (callRefusal size start end need room) ≡ true
-call-answered size start end need room =
-    picked self (inBuffer start end size) _ _ (picked self (leb need room) _ _ refl refl) refl
-
+-- of the functions for C: what comes back has a number of the table, and its place
 answer-number : (x : Answer Stream) → ((n p : ℕ) → x ≡ refused n p → isRefusal n ≡ true) → isAnswered (readingOf x .number) ≡ true
 answer-number (got x bits) f = refl
 answer-number (refused n p) f = refused-answered n (f n p refl)
 
-module _ (buf : List ℕ) (start end : ℕ) where
-  pub channel-answered : (index lines factors books room : ℕ)
-      → isAnswered (readingOf (channelCall buf start end index lines factors books room) .number) ≡ true
-  unfolding channelCall
-  channel-answered index lines factors books room =
-      picked (λ (x : Answer Stream). readingOf x .number) (eqb (callRefusal (length buf) start end 17 room) 0) _ _
-      (answer-number (channel buf start end index lines factors books) (channel-refusals buf start end index lines factors books))
-      (call-answered (length buf) start end 17 room)
-
-  judged-answered : (s : List ℕ) (room : ℕ) → isAnswered (stereoCallRefusal s (length buf) start end room) ≡ true
-  unfolding stereoCallRefusal
-  judged-answered s room =
-      let call = callRefusal (length buf) start end 582 room in
-      picked self (eqb call 0) (pick (soundBytes s) 0 4) call (picked self (soundBytes s) 0 4 refl refl)
-      (call-answered (length buf) start end 582 room)
-
-  pub stereo-call-answered : (s : List ℕ) (room : ℕ) → isAnswered (stereoNumber s buf start end room) ≡ true
-  unfolding stereoNumber
-  stereo-call-answered s room =
-      let call = stereoCallRefusal s (length buf) start end room in
-      picked self (eqb call 0) (stereoReading s buf start end .number) call (bytes-answered (stateAt s) (range buf start end))
-      (judged-answered s room)
+pub channel-answered : (c : channelC.Call) → isAnswered (readingOf (channelC.channelCall c) .number) ≡ true
+unfolding channelC.channelCall
+channel-answered c =
+    picked (λ (x : Answer Stream). readingOf x .number) (isThere (c .payload)) _ _
+    (picked (λ (x : Answer Stream). readingOf x .number) (leb 17 (length (c .answer))) _ _
+    (answer-number (channel (c .payload) (c .index) (haveRoom (c .outputs)))
+    (channel-refusals (c .payload) (c .index) (haveRoom (c .outputs))))
+    refl)
+    refl
 
 pub fresh-answered : (s : List ℕ) → isAnswered (freshNumber s) ≡ true
 fresh-answered s = picked self (leb 146 (length s)) _ _ refl refl
@@ -190,14 +239,15 @@ fresh-answered s = picked self (leb 146 (length s)) _ _ refl refl
 pub missing-answered : (s : List ℕ) → isAnswered (missingNumber s) ≡ true
 missing-answered s = picked self (soundBytes s) _ _ refl refl
 
-pub write-answered : (s contents out : List ℕ) (room : ℕ) → isAnswered (writeNumber s contents out room) ≡ true
-unfolding writeNumber
-write-answered s contents out room =
-    let call = writeCallRefusal s (length contents) room in
-    let few = picked self (leb 582 (length contents)) 0 40 refl refl in
-    let unsound = picked self (soundBytes s) (pick (leb 582 (length contents)) 0 40) 4 few refl in
-    picked self (eqb call 0) (stereoWriting s contents out .number) call
-    (writing-answered (stateAt s) (contentsAt contents) (length out)) (picked self (leb 4 room) _ 2 unsound refl)
+pub write-answered : (c : writeC.Call) → isAnswered (writeC.writeNumber c) ≡ true
+unfolding writeC.writeNumber
+write-answered c =
+    picked self (leb 4 (length (c .answer))) _ _
+    (picked self (soundBytes (c .state)) _ _
+    (picked self (leb 582 (length (c .contents))) _ _
+    (writing-answered (stateAt (c .state)) (contentsAt (c .contents)) (length (c .out))) refl)
+    refl)
+    refl
 
 pub image-answered : (image : List ℕ) (room : ℕ) → isAnswered (imageNumber image room) ≡ true
 unfolding imageNumber

@@ -11,7 +11,7 @@ use lib.ListN.{length, take, drop, length-append}
 use lib.Seq.{take-append-seam}
 use Rattle.bits.specs.Bits.{bitAt}
 use Rattle.bits.specs.Reader.{pick}
-use Rattle.bits.specs.Payload.{inBuffer, range}
+use Rattle.bits.specs.Payload.{Range, rangeIn, isThere, bytesIn}
 use Rattle.bits.specs.Pieces.{total}
 use Rattle.bits.specs.Packed.{bytesFor, packed}
 use Rattle.bits.proofs.Exact.{ReadTo}
@@ -30,7 +30,7 @@ use Rattle.stereo_writer.proofs.WritingLaws.{success, write-read, read-write, f
 use Rattle.promises.proofs.Acceptance.{in-range}
 
 -- the front of a buffer
-front-in : (xs ys : List ℕ) (n : ℕ) → n ≡ length xs → (inBuffer 0 n (length (xs ++ ys)) ≡ true) × (range (xs ++ ys) 0 n ≡ xs)
+front-in : (xs ys : List ℕ) (n : ℕ) → n ≡ length xs → (isThere (rangeIn (xs ++ ys) 0 n) ≡ true) × (bytesIn (rangeIn (xs ++ ys) 0 n) ≡ xs)
 front-in xs ys n e = (
   rw (length-append xs ys, le-leb 0 n (omega arith), le-leb n (length xs + length ys) (omega arith)),
   let q : n - 0 ≡ length xs = omega arith in ap (λ (k : ℕ). take k (xs ++ ys)) q ∙ take-append-seam xs ys,
@@ -58,7 +58,8 @@ module _ (st : State) (c : Contents) (out : List ℕ) where
 
   -- read from the front of the buffer that it was written to
   pub written-back : w .number ≡ 0
-      → readFrom st (writtenOver w st c out) 0 (bytesFor (w .bits)) ≡ record { number = 0; bits = w .bits; contents = c; state = w .state }
+      → readFrom st (rangeIn (writtenOver w st c out) 0 (bytesFor (w .bits)))
+      ≡ record { number = 0; place = 0; bits = w .bits; contents = c; state = w .state }
   unfolding readFrom
   written-back e =
       let good = success st c (length out) e in
@@ -68,17 +69,17 @@ module _ (st : State) (c : Contents) (out : List ℕ) where
       rw (over-is e, f .0, good .stands, f .1) (write-read st c (length out) e)
 
 -- an accepted payload, written from the same state into a buffer that has room for it
-module _ (st : State) (buf : List ℕ) (start end : ℕ) (out : List ℕ) where
+module _ (st : State) (p : Range) (out : List ℕ) where
   abbrev r : Reading
-  r = readFrom st buf start end
+  r = readFrom st p
 
   pub read-back : r .number ≡ 0 → bytesFor (r .bits) ≤ length out
       → (writing st (r .contents) (length out) ≡ record { number = 0; bits = r .bits; state = r .state })
       × ((i : ℕ) → i < r .bits
-      → bitAt (writtenOver (writing st (r .contents) (length out)) st (r .contents) out) i ≡ bitAt (range buf start end) i)
+      → bitAt (writtenOver (writing st (r .contents) (length out)) st (r .contents) out) i ≡ bitAt (bytesIn p) i)
   read-back e h =
-      let i = in-range st buf start end e in
-      let s = range buf start end in
+      let i = in-range st p e in
+      let s = bytesIn p in
       let bits : r .bits ≡ readBytes st s .bits = ap (λ (x : Reading). x .bits) (i .2) in
       let z : readBytes st s .number ≡ 0 = ap (λ (x : Reading). x .number) (sym (i .2)) ∙ e in
       let w = read-write st s (length out) (i .1) z (rw (← bits) h) in

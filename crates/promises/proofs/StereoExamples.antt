@@ -6,6 +6,7 @@ use mathlib.Core.List.{List, [], _∷_, map}
 use mathlib.Core.Bool.{true, false}
 use lib.IntN.{ℤ, pos}
 use Rattle.bits.specs.Reader.{refused}
+use Rattle.bits.specs.Payload.{rangeIn}
 use Rattle.stereo_indices.specs.Record.{none, recordOf}
 use Rattle.bits.specs.Lists.{padded}
 use Rattle.stereo_indices.specs.Indices.{index}
@@ -58,7 +59,7 @@ abbrev five : List ℤ
 five = pos 5 ∷ pos 5 ∷ pos 5 ∷ pos 5 ∷ pos 5 ∷ pos 5 ∷ pos 5 ∷ pos 5 ∷ pos 5 ∷ pos 5 ∷ pos 5 ∷ []
 
 -- out of step, 00 00: 12 still
-lost-0000 : readFrom (lost fresh) (0 ∷ 0 ∷ []) 0 2 ≡ refusal 12 (lost fresh)
+lost-0000 : readFrom (lost fresh) (rangeIn (0 ∷ 0 ∷ []) 0 2) ≡ refusal 12 4 (lost fresh)
 unfolding all
 lost-0000 = refl
 
@@ -68,13 +69,13 @@ unfolding all
 coherence-7 = refl
 
 -- time coding where the new mode came in an earlier payload with no envelopes: 31
-time-31 : readFrom (withIid 1 (kept 0 (pos 7 ∷ []))) (24 ∷ []) 0 1 ≡ refusal 31 (lost (withIid 1 (kept 0 (pos 7 ∷ []))))
+time-31 : readFrom (withIid 1 (kept 0 (pos 7 ∷ []))) (rangeIn (24 ∷ []) 0 1) ≡ refusal 31 4 (lost (withIid 1 (kept 0 (pos 7 ∷ []))))
 unfolding all
 time-31 = refl
 
 -- a range outside the buffer: 1, before an unsound state: 4
-order-1-4 : (readFrom (withIid 7 none) (0 ∷ []) 0 2 ≡ refusal 1 (withIid 7 none))
-    × (readFrom (withIid 7 none) (0 ∷ []) 0 1 ≡ refusal 4 (withIid 7 none))
+order-1-4 : (readFrom (withIid 7 none) (rangeIn (0 ∷ []) 0 2) ≡ refusal 1 0 (withIid 7 none))
+    × (readFrom (withIid 7 none) (rangeIn (0 ∷ []) 0 1) ≡ refusal 4 0 (withIid 7 none))
 unfolding all
 order-1-4 = (refl, refl)
 
@@ -82,14 +83,14 @@ order-1-4 = (refl, refl)
 abbrev second : List ℕ
 second = 164 ∷ 95 ∷ 224 ∷ 3 ∷ 255 ∷ 128 ∷ 0 ∷ []
 
-published : (readFrom fresh second 0 7 ≡ accepted 50 (record {
+published : (readFrom fresh (rangeIn second 0 7) ≡ accepted 50 (record {
   header = record { there = 1; iid = 0; iidmode = 0; icc = 1; iccmode = 1; ext = 0 };
   frame = record { class = 0; envelopes = 1; borders = noBorders };
   iid = noRows;
   icc = row 0 five ∷ noRow ∷ noRow ∷ noRow ∷ [];
   extension = noExtension;
 }) (withIcc 1 (kept 1 five)))
-    × (readFrom (withIcc 1 (kept 1 five)) (0 ∷ []) 0 1 ≡ accepted 4 noContents (withIcc 1 (kept 1 five)))
+    × (readFrom (withIcc 1 (kept 1 five)) (rangeIn (0 ∷ []) 0 1) ≡ accepted 4 noContents (withIcc 1 (kept 1 five)))
 unfolding all
 published = (refl, refl)
 
@@ -97,20 +98,28 @@ published = (refl, refl)
 abbrev restarting : List ℕ
 restarting = 196 ∷ 8 ∷ 0 ∷ 0 ∷ 0 ∷ []
 
-pub accepted-out-of-step : (readFrom (lost fresh) restarting 0 5 .number ≡ 0) × (readFrom (lost fresh) restarting 0 5 .bits ≡ 35)
-    × (readFrom (lost fresh) restarting 0 5 .state .instep ≡ true)
+pub accepted-out-of-step : (readFrom (lost fresh) (rangeIn restarting 0 5) .number ≡ 0)
+    × (readFrom (lost fresh) (rangeIn restarting 0 5) .bits ≡ 35)
+    × (readFrom (lost fresh) (rangeIn restarting 0 5) .state .instep ≡ true)
 unfolding all
 accepted-out-of-step = (refl, refl, refl)
 
 -- a damaged run: a restart, torn; "keep what you had", which out of step is 35; the restart, whole; "keep what you had"
-abbrev spoken : Outcome Contents → ℕ
-spoken (answered c n) = 0
-spoken (refusing n) = n
-spoken reported = 0
+-- each answered with 0, and refused with its number and its place
+abbrev spoken : Outcome Contents → List ℕ
+spoken (answered c n) = 0 ∷ []
+spoken (refusing n place) = n ∷ place ∷ []
+spoken reported = 0 ∷ []
 
 abbrev damaged : List Event
-damaged = payload (196 ∷ []) 0 1 ∷ payload (0 ∷ []) 0 1 ∷ payload restarting 0 5 ∷ payload (0 ∷ []) 0 1 ∷ []
+damaged =
+    payload (rangeIn (196 ∷ []) 0 1)
+    ∷ payload (rangeIn (0 ∷ []) 0 1)
+    ∷ payload (rangeIn restarting 0 5)
+    ∷ payload (rangeIn (0 ∷ []) 0 1)
+    ∷ []
 
-pub damaged-run : map (λ (t : Turn State Contents). spoken (t .outcome)) (run stereo fresh damaged) ≡ 10 ∷ 35 ∷ 0 ∷ 0 ∷ []
+pub damaged-run : map (λ (t : Turn State Contents). spoken (t .outcome)) (run stereo fresh damaged)
+    ≡ (10 ∷ 6 ∷ []) ∷ (35 ∷ 4 ∷ []) ∷ (0 ∷ []) ∷ (0 ∷ []) ∷ []
 unfolding all
 damaged-run = refl

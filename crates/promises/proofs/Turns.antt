@@ -2,18 +2,17 @@
 -- Assumes nothing.
 use Prim.Native.Nat.{ℕ}
 use mathlib.Core.Path.{_≡_, refl, _∙_}
-use mathlib.Core.List.{List}
+use mathlib.Core.List.{[], _∷_}
 use mathlib.Core.Bool.{Bool, true, false, _||_}
 use lib.Dec.{eqb}
 use borrow.Author.Tests.{ne-eqb}
-use lib.ListN.{length}
 use Rattle.bits.specs.Reader.{Answer, got, refused, pick}
-use Rattle.bits.specs.Payload.{inBuffer, range, whole}
+use Rattle.bits.specs.Payload.{Range, isThere, bytesIn, whole}
+use Rattle.bits.specs.Calls.{_or_, firstRefusal}
 use Rattle.stereo.specs.State.{sound, lost}
 use Rattle.stereo.specs.Payload.{payload}
-use Rattle.stereo.specs.Carried.{carried}
 use Rattle.stereo.specs.Restart.{restart}
-use Rattle.stereo_reader.specs.Reading.{from, refusal, taken, readingOf, readBytes, readFrom, missing}
+use Rattle.stereo_reader.specs.Reading.{from, refusal, acceptance, taken, readingOf, readBytes, readFrom, missing}
 use Rattle.stereo.specs.declared.State.{State}
 use Rattle.stereo.specs.declared.Contents.{Contents}
 use Rattle.stereo.proofs.StateLaws.{fresh-sound, lost-sound}
@@ -35,23 +34,23 @@ steady = record {
 }
 
 -- a payload
-pub reads : (st : State) (b : List ℕ) (start end : ℕ) → turn stereo st (given b start end) ≡ turnOf (readFrom st b start end)
+pub reads : (st : State) (p : Range) → turn stereo st (given p) ≡ turnOf (readFrom st p)
 unfolding readFrom readBytes taken
-reads st b start end =
-    go (inBuffer start end (length b)) (sound st) (whole (payload (from st)) (range b start end))
-    (λ n place q. ne-eqb n 0 (whole-not-0 (from st) (range b start end) n place q))
+reads st p =
+    go (isThere p) (sound st) (whole (payload (from st)) (bytesIn p))
+    (λ n place q. ne-eqb n 0 (whole-not-0 (from st) (bytesIn p) n place q))
   where
     step : (c : Contents) (n : ℕ) (t : Bool)
-        → pick t (accepted stereo st c n) (losing stereo st 35)
-        ≡ turnOf (pick t (record { number = 0; bits = n; contents = c; state = carried (from st) c }) (refusal 35 (lost st)))
+        → pick t (accepted stereo st c n) (losing stereo st 35 n)
+        ≡ turnOf (pick t (acceptance st c n) (refusal 35 n (lost st)))
     step c n true = refl
     step c n false = refl
 
-    go : (p q : Bool) (a : Answer Contents) → ((n place : ℕ) → a ≡ refused n place → eqb n 0 ≡ false)
-        → pick p (pick q (concluded stereo st a) (untouched stereo st 4)) (untouched stereo st 1)
-        ≡ turnOf (pick p (pick q (readingOf st a) (refusal 4 st)) (refusal 1 st))
-    go false q a h = refl
-    go true false a h = refl
+    go : (a b : Bool) (x : Answer Contents) → ((n place : ℕ) → x ≡ refused n place → eqb n 0 ≡ false)
+        → firstRefusal (a or 1 ∷ b or 4 ∷ []) (untouched stereo st) (concluded stereo st x)
+        ≡ turnOf (firstRefusal (a or 1 ∷ b or 4 ∷ []) (λ n. refusal n 0 st) (readingOf st x))
+    go false b x h = refl
+    go true false x h = refl
     go true true (got c n) h = step c n (st .instep || restart c)
     go true true (refused n place) h = rw (h n place refl)
 

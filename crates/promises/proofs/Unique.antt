@@ -5,6 +5,7 @@ use mathlib.Core.Path.{_≡_, sym, _∙_, ap}
 use mathlib.Core.List.{List}
 use mathlib.Core.Bool.{Bool}
 use denote.Ref.{RefT}
+use Rattle.bits.specs.Payload.{Range}
 use Rattle.image.specs.Image.{HeaderPromise, PartPromise}
 use Rattle.image.specs.declared.Header.{Header}
 use Rattle.image.specs.declared.Part.{Part}
@@ -32,9 +33,8 @@ module _ (st : State) where
   pub one-report : (r r′ : Report) → MissingPromise st r → MissingPromise st r′ → r ≡ r′
   one-report r r′ p q = p ∙ sym q
 
-  pub one-reading : (bytes : List ℕ) (start end : ℕ) (r r′ : Reading) → ReadPromise st bytes start end r → ReadPromise st bytes start end r′
-      → r ≡ r′
-  one-reading bytes start end r r′ p q = p ∙ sym q
+  pub one-reading : (p : Range) (r r′ : Reading) → ReadPromise st p r → ReadPromise st p r′ → r ≡ r′
+  one-reading p r r′ a b = a ∙ sym b
 
   -- the answer, and the lent buffer afterwards
   pub one-writing : (c : Contents) (before after after′ : List ℕ) (r r′ : Written) → WritePromise before st c r after
@@ -44,9 +44,9 @@ module _ (st : State) where
       (e, p .1 ∙ ap (λ (w : Written). writtenOver w st c before) e ∙ sym (q .1))
 
   -- the answer, and the lent state afterwards
-  pub one-lent-reading : (bytes : List ℕ) (start end : ℕ) (r r′ : Answer) (after after′ : State)
-      → LentReadPromise st bytes start end r after → LentReadPromise st bytes start end r′ after′ → (r ≡ r′) × (after ≡ after′)
-  one-lent-reading bytes start end r r′ after after′ p q = (p .0 ∙ sym (q .0), p .1 ∙ sym (q .1))
+  pub one-lent-reading : (p : Range) (r r′ : Answer) (after after′ : State) → LentReadPromise st p r after → LentReadPromise st p r′ after′
+      → (r ≡ r′) × (after ≡ after′)
+  one-lent-reading p r r′ after after′ a b = (a .0 ∙ sym (b .0), a .1 ∙ sym (b .1))
 
   pub one-lent-report : (r r′ : ℕ) (after after′ : State) → LentMissingPromise st r after → LentMissingPromise st r′ after′
       → (r ≡ r′) × (after ≡ after′)

@@ -4,15 +4,14 @@
 use Prim.Native.Nat.{ℕ}
 use mathlib.Core.Path.{_≡_, sym, _∙_}
 use mathlib.Core.List.{List}
-use lib.IntN.{ℤ}
 use Rattle.image.specs.declared.Header.{Header}
 use Rattle.channel.specs.declared.Reading.{Reading}
-use Rattle.channel.specs.Promise.{ReadChannelPromise}
-use Rattle.c_channel.specs.ReadChannel.{ReadChannelPromise as ReadChannelCPromise}
+use Rattle.channel.specs.Promise.{Outputs, Call, ReadChannelPromise}
+use Rattle.c_channel.specs.ReadChannel as channelC
 use Rattle.c_image.specs.ImageCalls.{ReadHeaderPromise, FindPartPromise}
 use Rattle.c_stereo.specs.StateCalls.{FreshStatePromise, ReportMissingPromise}
-use Rattle.c_stereo.specs.ReadStereo.{ReadStereoPromise}
-use Rattle.c_writer.specs.WriteStereo.{WriteStereoPromise}
+use Rattle.c_stereo.specs.ReadStereo as stereoC
+use Rattle.c_writer.specs.WriteStereo as writeC
 use Rattle.c_version.specs.Version.{version, VersionPromise}
 use Rattle.image_outline.specs.Outline.{OutlinePromise}
 
@@ -40,18 +39,15 @@ module _ (image answer : List ℕ) (r r′ : ℕ) (after after′ : List ℕ) wh
       → (r ≡ r′) × (after ≡ after′)
   one-image-part k = one-call _ _ r r′ after after′
 
--- the stereo reader: the number, the state and the answer
-pub one-stereo : (state buf : List ℕ) (start end : ℕ) (answer : List ℕ) (r r′ : ℕ) (s s′ a a′ : List ℕ)
-    → ReadStereoPromise state buf start end answer r s a → ReadStereoPromise state buf start end answer r′ s′ a′
-    → (r ≡ r′) × (s ≡ s′) × (a ≡ a′)
-one-stereo state buf start end answer r r′ s s′ a a′ p q =
-    (same _ (p .0) (q .0), same _ (p .1 .0) (q .1 .0), same _ (p .1 .1) (q .1 .1))
+-- the stereo reader: what comes back, the state and the answer
+pub one-stereo : (c : stereoC.Call) (r r′ : ℕ) (s s′ a a′ : List ℕ) → stereoC.ReadStereoPromise c r s a
+    → stereoC.ReadStereoPromise c r′ s′ a′ → (r ≡ r′) × (s ≡ s′) × (a ≡ a′)
+one-stereo c r r′ s s′ a a′ p q = (same _ (p .0) (q .0), same _ (p .1 .0) (q .1 .0), same _ (p .1 .1) (q .1 .1))
 
 -- the stereo writer: the number, the state, the output and the answer
-pub one-written : (state contents out answer : List ℕ) (r r′ : ℕ) (s s′ o o′ a a′ : List ℕ)
-    → WriteStereoPromise state contents out answer r s o a → WriteStereoPromise state contents out answer r′ s′ o′ a′
-    → (r ≡ r′) × (s ≡ s′) × (o ≡ o′) × (a ≡ a′)
-one-written state contents out answer r r′ s s′ o o′ a a′ p q = (
+pub one-written : (c : writeC.Call) (r r′ : ℕ) (s s′ o o′ a a′ : List ℕ) → writeC.WriteStereoPromise c r s o a
+    → writeC.WriteStereoPromise c r′ s′ o′ a′ → (r ≡ r′) × (s ≡ s′) × (o ≡ o′) × (a ≡ a′)
+one-written c r r′ s s′ o o′ a a′ p q = (
   same _ (p .0) (q .0),
   same _ (p .1 .0) (q .1 .0),
   same _ (p .1 .1 .0) (q .1 .1 .0),
@@ -59,30 +55,13 @@ one-written state contents out answer r r′ s s′ o o′ a a′ p q = (
 )
 
 -- the channel reader: the answer, and the three outputs
-module _ (buf : List ℕ) (start end index : ℕ) (lines : List ℤ) (factors books : List ℕ) where
-  pub one-channel : (r r′ : Reading) (l l′ : List ℤ) (f f′ b b′ : List ℕ)
-      → ReadChannelPromise buf start end index lines factors books r l f b
-      → ReadChannelPromise buf start end index lines factors books r′ l′ f′ b′
-      → (r ≡ r′) × (l ≡ l′) × (f ≡ f′) × (b ≡ b′)
-  one-channel r r′ l l′ f f′ b b′ p q = (
-    same _ (p .0) (q .0),
-    same _ (p .1 .0) (q .1 .0),
-    same _ (p .1 .1 .0) (q .1 .1 .0),
-    same _ (p .1 .1 .1) (q .1 .1 .1),
-  )
+pub one-channel : (c : Call) (r r′ : Reading) (o o′ : Outputs) → ReadChannelPromise c r o → ReadChannelPromise c r′ o′ → (r ≡ r′) × (o ≡ o′)
+one-channel c r r′ o o′ p q = (same _ (p .0) (q .0), same _ (p .1) (q .1))
 
-  -- and for C the answer's bytes
-  pub one-channel-call : (answer : List ℕ) (r r′ : ℕ) (l l′ : List ℤ) (f f′ b b′ a a′ : List ℕ)
-      → ReadChannelCPromise buf start end index lines factors books answer r l f b a
-      → ReadChannelCPromise buf start end index lines factors books answer r′ l′ f′ b′ a′
-      → (r ≡ r′) × (l ≡ l′) × (f ≡ f′) × (b ≡ b′) × (a ≡ a′)
-  one-channel-call answer r r′ l l′ f f′ b b′ a a′ p q = (
-    same _ (p .0) (q .0),
-    same _ (p .1 .0) (q .1 .0),
-    same _ (p .1 .1 .0) (q .1 .1 .0),
-    same _ (p .1 .1 .1 .0) (q .1 .1 .1 .0),
-    same _ (p .1 .1 .1 .1) (q .1 .1 .1 .1),
-  )
+-- and for C what comes back, the three outputs and the answer's bytes
+pub one-channel-call : (c : channelC.Call) (r r′ : ℕ) (o o′ : Outputs) (a a′ : List ℕ) → channelC.ReadChannelPromise c r o a
+    → channelC.ReadChannelPromise c r′ o′ a′ → (r ≡ r′) × (o ≡ o′) × (a ≡ a′)
+one-channel-call c r r′ o o′ a a′ p q = (same _ (p .0) (q .0), same _ (p .1 .0) (q .1 .0), same _ (p .1 .1) (q .1 .1))
 
 -- the outline: the header, and the rows
 pub one-outline : (image rows : List ℕ) (r r′ : Header) (after after′ : List ℕ) → OutlinePromise image rows r after

@@ -1,23 +1,25 @@
--- A refusal changes no lent buffer, and in the stereo state at most the mark: 1, 2 and 4 leave it, 10 to 35 set it out of step.
+-- A refusal changes no lent buffer, and in the stereo state at most the mark: 1, 2 and 4 leave it and have no place, 10 to 35 set it out of
+-- step.
 -- Assumes nothing.
-use Prim.Native.Nat.{ℕ, _+_}
+use Prim.Native.Nat.{ℕ, _+_, _<_}
 use mathlib.Core.Path.{_≡_, refl}
 use mathlib.Core.Logic.{_≢_}
-use mathlib.Core.List.{List}
+use mathlib.Core.List.{List, [], _∷_}
 use mathlib.Core.Bool.{Bool, true, false, _||_}
 use lib.Dec.{eqb, leb}
-use lib.IntN.{ℤ}
 use lib.ListN.{length}
+use native.Mathlib.Omega.{arith}
 use borrow.Author.Tests.{ne-eqb}
 use Rattle.bits.specs.Reader.{Answer, got, refused, pick}
-use Rattle.bits.specs.Calls.{answered}
+use Rattle.bits.specs.Calls.{_or_, firstRefusal, returned, numberIn, answered}
 use Rattle.bits.specs.Bits.{bitsFrom}
 use Rattle.bits.specs.Field.{field}
 use Rattle.bit_reader.specs.Took.{lastPlace, tookOf, tookAt}
 use Rattle.bit_reader.specs.declared.Took.{Took}
-use Rattle.bits.specs.Payload.{inBuffer, range, whole}
+use Rattle.bits.specs.Payload.{Range, isThere, bytesIn, whole}
+use Rattle.bits.proofs.CallLaws.{number-kept}
 use Rattle.channel.specs.Stream.{Stream}
-use Rattle.channel.specs.Promise.{readingOf, linesAfter, factorsAfter, booksAfter}
+use Rattle.channel.specs.Promise.{Outputs, readingOf, outputsAfter}
 use Rattle.stereo.specs.State.{sound, lost}
 use Rattle.stereo.specs.Restart.{restart}
 use Rattle.stereo.specs.Payload.{payload}
@@ -25,13 +27,13 @@ use Rattle.stereo.specs.declared.State.{State}
 use Rattle.stereo.specs.declared.Contents.{Contents}
 use Rattle.stereo_reader.specs.declared.Reading.{Reading}
 use Rattle.stereo_reader.specs.declared.Report.{Report}
-use Rattle.stereo_reader.specs.Reading.{from, refusal, taken, readBytes, readFrom, missing}
+use Rattle.stereo_reader.specs.Reading.{from, refusal, acceptance, taken, readBytes, readFrom, missing}
 use Rattle.stereo_reader.specs.Reading as reading
 use Rattle.stereo.specs.Carried.{carried}
 use Rattle.bits.proofs.Numbered.{one-of}
 use Rattle.stereo_laws.proofs.PayloadNumbers.{payloadRefusals, whole-own}
 use Rattle.c_stereo.specs.StateCalls.{freshNumber, freshAfter, missingNumber, missingAfter, lostBytes}
-use Rattle.c_stereo.specs.ReadStereo.{stereoCallRefusal, stereoReading, stereoNumber, stereoStateAfter, stereoAnswerAfter}
+use Rattle.c_stereo.specs.ReadStereo as stereoC
 use Rattle.stereo_writer.specs.declared.Written.{Written}
 use Rattle.stereo_writer.specs.Spelling.{spelling}
 use Rattle.stereo_writer.specs.Writing.{canWrite, unwritten, writing, writtenOver}
@@ -40,21 +42,22 @@ use Rattle.bits.specs.Packed.{bytesFor}
 use Rattle.bits.specs.Lists.{oneOf}
 use Rattle.c_layout.specs.StateBytes.{stateAt, soundBytes}
 use Rattle.c_layout.specs.ContentsBytes.{contentsAt}
-use Rattle.c_writer.specs.WriteStereo.{writeCallRefusal, stereoWriting, writeNumber, writeStateAfter, writeOutputAfter, writeAnswerAfter}
+use Rattle.c_writer.specs.WriteStereo as writeC
 use Rattle.c_image.specs.ImageCalls.{imageNumber, imageAnswerAfter, partNumber, partAnswerAfter}
 use Rattle.image_outline.specs.Outline.{outlineOf, rowsAfter}
 use Rattle.c_channel.specs.ReadChannel.{channelAnswerAfter}
+use Rattle.promises.proofs.Refusals.{bytes-answered, answered-small}
+use Rattle.promises.proofs.Places.{accepted-placed}
 
 -- a lent answer after a number that is not 0
 unanswered : (n : ℕ) → n ≢ 0 → (bytes old : List ℕ) → answered n bytes old ≡ old
 unanswered n h bytes old = rw (ne-eqb n 0 h)
 
 -- a channel stream, of the library or for C: an answer that is refused leaves every output
-pub channel-untouched : (x : Answer Stream) → readingOf x .number ≢ 0 → (lines : List ℤ) (factors books answer : List ℕ)
-    → (linesAfter x lines ≡ lines) × (factorsAfter x factors ≡ factors) × (booksAfter x books ≡ books)
-    × (channelAnswerAfter x answer ≡ answer)
-channel-untouched (got x bits) h lines factors books answer = absurd (h refl)
-channel-untouched (refused n p) h lines factors books answer = (refl, refl, refl, unanswered n h _ answer)
+pub channel-untouched : (x : Answer Stream) → readingOf x .number ≢ 0 → (o : Outputs) (answer : List ℕ)
+    → (outputsAfter x o ≡ o) × (channelAnswerAfter x answer ≡ answer)
+channel-untouched (got x bits) h o answer = absurd (h refl)
+channel-untouched (refused n p) h o answer = (refl, unanswered n h _ answer)
 
 -- of the bit reader: a refusal takes nothing, and the place stays
 module _ (s : List ℕ) (at n : ℕ) where
@@ -74,9 +77,13 @@ module _ (s : List ℕ) (at n : ℕ) where
 late : (n : ℕ) → oneOf payloadRefusals n ≡ true → leb 10 n ≡ true
 late = one-of (leb 10) payloadRefusals (refl, (refl, (refl, (refl, (refl, (refl, (refl, tt)))))))
 
--- a stereo reading is accepted, or a refusal with every other number 0: 10 and above touch the mark, the others leave the state
+-- a stereo reading is accepted, or a refusal whose other numbers are 0: 10 and above have a place and touch the mark, the others have the
+-- place 0 and leave the state
+abbrev pub settledTo : State → Reading → Reading
+settledTo st r = pick (leb 10 (r .number)) (refusal (r .number) (r .place) (lost st)) (refusal (r .number) 0 st)
+
 abbrev pub Settled : State → Reading → Type 0
-Settled st r = r .number ≢ 0 → r ≡ refusal (r .number) (pick (leb 10 (r .number)) (lost st) st)
+Settled st r = r .number ≢ 0 → r ≡ settledTo st r
 
 settled-pick : (st : State) (b : Bool) {x y : Reading} → Settled st x → Settled st y → Settled st (pick b x y)
 settled-pick st true p q = p
@@ -85,11 +92,11 @@ settled-pick st false p q = q
 module _ (st : State) where
   -- a payload's own refusal touches the mark
   abbrev Touching : Reading → Type 0
-  Touching r = r .number ≢ 0 → (r ≡ refusal (r .number) (lost st)) × (leb 10 (r .number) ≡ true)
+  Touching r = r .number ≢ 0 → (r ≡ refusal (r .number) (r .place) (lost st)) × (leb 10 (r .number) ≡ true)
 
-  touching-pick : (b : Bool) (r : Reading) → r .number ≡ 0 → Touching (pick b r (refusal 35 (lost st)))
-  touching-pick true r e h = absurd (h e)
-  touching-pick false r e h = (refl, refl)
+  touching-pick : (b : Bool) (bits : ℕ) (r : Reading) → r .number ≡ 0 → Touching (pick b r (refusal 35 bits (lost st)))
+  touching-pick true bits r e h = absurd (h e)
+  touching-pick false bits r e h = (refl, refl)
 
   pub bytes-touching : (s : List ℕ) → Touching (readBytes st s)
   unfolding readBytes taken
@@ -97,19 +104,17 @@ module _ (st : State) where
     where
       by-answer : (x : Answer Contents) → whole (payload (from st)) s ≡ x → Touching (reading.readingOf st x)
       by-answer (got c bits) e =
-          let read : Reading = record { number = 0; bits = bits; contents = c; state = carried (from st) c } in
-          touching-pick (st .instep || restart c) read refl
+          touching-pick (st .instep || restart c) bits (acceptance st c bits) refl
       by-answer (refused n p) e = λ h. (refl, late n (whole-own (from st) s n p e))
 
   bytes-settled : (s : List ℕ) → Settled st (readBytes st s)
   bytes-settled s h = let o = bytes-touching s h in rw (o .1) (o .0)
 
   -- of the reader, by value or over a lent state
-  pub stereo-settled : (b : List ℕ) (start end : ℕ) → Settled st (readFrom st b start end)
+  pub stereo-settled : (p : Range) → Settled st (readFrom st p)
   unfolding readFrom
-  stereo-settled b start end =
-      settled-pick st (inBuffer start end (length b))
-      (settled-pick st (sound st) (bytes-settled (range b start end)) (λ h. refl)) (λ h. refl)
+  stereo-settled p =
+      settled-pick st (isThere p) (settled-pick st (sound st) (bytes-settled (bytesIn p)) (λ h. refl)) (λ h. refl)
 
   -- of a report
   abbrev report : Bool → Report
@@ -152,32 +157,40 @@ pub rows-untouched : (s rows : List ℕ) → outlineOf s (length rows) .number �
 unfolding rowsAfter
 rows-untouched s rows h = rw (ne-eqb _ 0 h)
 
--- of the functions for C
-module _ (s buf : List ℕ) (start end : ℕ) (answer : List ℕ) (h : stereoNumber s buf start end (length answer) ≢ 0) where
-  pub stereo-answer-untouched : stereoAnswerAfter s buf start end answer ≡ answer
-  unfolding stereoAnswerAfter
-  stereo-answer-untouched = unanswered _ h _ answer
+-- of the functions for C: what comes back is 0, or a refusal before any bit, below 10, or one of the payload, from 10 on
+module _ (c : stereoC.Call) (h : stereoC.stereoReturned c ≢ 0) where
+  -- by the three tests, and by the number and the place of the reading
+  abbrev told : Bool → Bool → Bool → ℕ → ℕ → ℕ
+  told a b d n place = firstRefusal (a or 1 ∷ b or 2 ∷ d or 4 ∷ []) (λ m. m) (returned n place)
 
-  -- what is judged before any bit, by its three tests, and the number after it
-  abbrev judged : Bool → Bool → Bool → ℕ
-  judged a b c = pick (eqb (pick a (pick b 0 2) 1) 0) (pick c 0 4) (pick a (pick b 0 2) 1)
+  by-tests : (a b d : Bool) (n place : ℕ) → (n ≡ 0 → place ≡ 0) → (n ≢ 0 → leb 10 n ≡ true) → n < 256 → (next news : List ℕ)
+      → told a b d n place ≢ 0
+      → (firstRefusal (a or 1 ∷ b or 2 ∷ d or 4 ∷ []) (λ m. c .state) (pick (eqb n 0) next (lostBytes (c .state)))
+      ≡ pick (leb 10 (numberIn (told a b d n place))) (lostBytes (c .state)) (c .state))
+      × (firstRefusal (a or 1 ∷ b or 2 ∷ d or 4 ∷ []) (λ m. c .answer) (answered n news (c .answer)) ≡ c .answer)
+  by-tests true true true n place none late small next news h =
+      let not-0 : n ≢ 0 = λ e. h (omega (arith, e, none e)) in
+      rw (ne-eqb n 0 not-0, number-kept n place small, late not-0) (refl, refl)
+  by-tests true true false n place none late small next news h = (refl, refl)
+  by-tests true false d n place none late small next news h = (refl, refl)
+  by-tests false b d n place none late small next news h = (refl, refl)
 
-  abbrev number : Bool → Bool → Bool → ℕ → ℕ
-  number a b c n = pick (eqb (judged a b c) 0) n (judged a b c)
+  left : (stereoC.stereoStateAfter c ≡ pick (leb 10 (numberIn (stereoC.stereoReturned c))) (lostBytes (c .state)) (c .state))
+      × (stereoC.stereoAnswerAfter c ≡ c .answer)
+  unfolding stereoC.stereoReturned stereoC.stereoStateAfter stereoC.stereoAnswerAfter
+  left =
+      let st = stateAt (c .state) in
+      let s = bytesIn (c .payload) in
+      let r = readBytes st s in
+      by-tests (isThere (c .payload)) (leb 582 (length (c .answer))) (soundBytes (c .state)) (r .number) (r .place) (accepted-placed st s)
+      (λ g. bytes-touching st s g .1) (answered-small _ (bytes-answered st s)) _ _ h
 
-  by-tests : (a b c : Bool) (n : ℕ) → (n ≢ 0 → leb 10 n ≡ true) → (next : List ℕ) → number a b c n ≢ 0
-      → pick (eqb (judged a b c) 0) (pick (eqb n 0) next (lostBytes s)) s ≡ pick (leb 10 (number a b c n)) (lostBytes s) s
-  by-tests true true true n touched next h = rw (ne-eqb n 0 h, touched h)
-  by-tests true true false n touched next h = refl
-  by-tests true false c n touched next h = refl
-  by-tests false b c n touched next h = refl
+  pub stereo-answer-untouched : stereoC.stereoAnswerAfter c ≡ c .answer
+  stereo-answer-untouched = left .1
 
-  pub stereo-state-marked : stereoStateAfter s buf start end (length answer)
-      ≡ pick (leb 10 (stereoNumber s buf start end (length answer))) (lostBytes s) s
-  unfolding stereoStateAfter stereoNumber stereoCallRefusal
-  stereo-state-marked =
-      by-tests (inBuffer start end (length buf)) (leb 582 (length answer)) (soundBytes s) (stereoReading s buf start end .number)
-      (λ g. bytes-touching (stateAt s) (range buf start end) g .1) _ h
+  pub stereo-state-marked : stereoC.stereoStateAfter c
+      ≡ pick (leb 10 (numberIn (stereoC.stereoReturned c))) (lostBytes (c .state)) (c .state)
+  stereo-state-marked = left .0
 
 module _ (s : List ℕ) where
   pub fresh-untouched : freshNumber s ≢ 0 → freshAfter s ≡ s
@@ -190,20 +203,24 @@ module _ (s : List ℕ) where
   pub missing-untouched : missingNumber s ≢ 0 → missingAfter s ≡ s
   missing-untouched = by-sound (soundBytes s)
 
-module _ (s contents out answer : List ℕ) (h : writeNumber s contents out (length answer) ≢ 0) where
-  pub write-untouched : (writeStateAfter s contents out (length answer) ≡ s) × (writeAnswerAfter s contents out answer ≡ answer)
-  unfolding writeStateAfter writeAnswerAfter
-  write-untouched = (unanswered _ h _ s, unanswered _ h _ answer)
+module _ (c : writeC.Call) (h : writeC.writeNumber c ≢ 0) where
+  pub write-untouched : (writeC.writeStateAfter c ≡ c .state) × (writeC.writeAnswerAfter c ≡ c .answer)
+  unfolding writeC.writeStateAfter writeC.writeAnswerAfter
+  write-untouched = (unanswered _ h _ (c .state), unanswered _ h _ (c .answer))
 
-  by-call : (b : Bool) (w : Written) (n : ℕ) → pick b (w .number) n ≢ 0
-      → pick b (writtenOver w (stateAt s) (contentsAt contents) out) out ≡ out
+  by-call : (a b d : Bool) (w : Written) → firstRefusal (a or 2 ∷ b or 4 ∷ d or 40 ∷ []) (λ n. n) (w .number) ≢ 0
+      → firstRefusal (a or 2 ∷ b or 4 ∷ d or 40 ∷ []) (λ n. c .out)
+      (writtenOver w (stateAt (c .state)) (contentsAt (c .contents)) (c .out)) ≡ c .out
   unfolding writtenOver
-  by-call true w n h = rw (ne-eqb _ 0 h)
-  by-call false w n h = refl
+  by-call true true true w h = rw (ne-eqb _ 0 h)
+  by-call true true false w h = refl
+  by-call true false d w h = refl
+  by-call false b d w h = refl
 
-  pub output-untouched : writeOutputAfter s contents out (length answer) ≡ out
-  unfolding writeOutputAfter writeNumber
-  output-untouched = by-call (eqb (writeCallRefusal s (length contents) (length answer)) 0) (stereoWriting s contents out) _ h
+  pub output-untouched : writeC.writeOutputAfter c ≡ c .out
+  unfolding writeC.writeOutputAfter writeC.writeNumber
+  output-untouched =
+      by-call (leb 4 (length (c .answer))) (soundBytes (c .state)) (leb 582 (length (c .contents))) (writeC.stereoWriting c) h
 
 module _ (image answer : List ℕ) where
   pub header-untouched : imageNumber image (length answer) ≢ 0 → imageAnswerAfter image answer ≡ answer

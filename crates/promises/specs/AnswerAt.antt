@@ -11,6 +11,7 @@ abbrev pub readingAt : List ℕ → Reading
 readingAt s =
     record {
       number = 0;
+      place = 0;
       bits = bitsFrom s 0 32;
       gain = getD s 4 0;
       sequence = getD s 5 0;

@@ -7,7 +7,7 @@ use mathlib.Core.Logic.{_≢_}
 use lib.IntN.{pos}
 use Rattle.bits.specs.Bits.{bitsFrom}
 use Rattle.bits.specs.Reader.{got, refused}
-use Rattle.bits.specs.Payload.{whole}
+use Rattle.bits.specs.Payload.{rangeIn, whole}
 use Rattle.words.specs.Escape.{escape}
 use Rattle.channel_lines.specs.Grouping.{groupsAfter}
 use Rattle.channel_side.specs.Sections.{sectionLength}
@@ -26,7 +26,7 @@ use Rattle.stereo_reader.specs.Reading.{refusal, readBytes, readFrom}
 use Rattle.stereo_reader.specs.declared.Reading.{Reading}
 
 abbrev pub accepted : ℕ → Contents → State → Reading
-accepted bits c st = record { number = 0; bits = bits; contents = c; state = st }
+accepted bits c st = record { number = 0; place = 0; bits = bits; contents = c; state = st }
 
 -- a header with the extension enabled, no envelopes, and an extension of size 0
 abbrev emptyExtension : Contents
@@ -52,17 +52,17 @@ withExtension = record {
 unfoldable pub bench : List (Type 0)
 bench =
     -- fresh, stereo 00: no envelopes, 4 bits
-    (readFrom fresh (0 ∷ []) 0 1 ≡ accepted 4 noContents fresh)
+    (readFrom fresh (rangeIn (0 ∷ []) 0 1) ≡ accepted 4 noContents fresh)
     -- 00 00: 12
-    ∷ (readFrom fresh (0 ∷ 0 ∷ []) 0 2 ≡ refusal 12 (lost fresh))
+    ∷ (readFrom fresh (rangeIn (0 ∷ 0 ∷ []) 0 2) ≡ refusal 12 4 (lost fresh))
     -- out of step, 00: 35
-    ∷ (readFrom (lost fresh) (0 ∷ []) 0 1 ≡ refusal 35 (lost fresh))
+    ∷ (readFrom (lost fresh) (rangeIn (0 ∷ []) 0 1) ≡ refusal 35 4 (lost fresh))
     -- empty: 10
-    ∷ (readFrom fresh [] 0 0 ≡ refusal 10 (lost fresh))
+    ∷ (readFrom fresh (rangeIn [] 0 0) ≡ refusal 10 0 (lost fresh))
     -- bits 11110 first: 13 (IID mode 6), whatever follows and from every state
-    ∷ ((st : State) (s : List ℕ) → s ≢ [] → bitsFrom s 0 5 ≡ 30 → readBytes st s ≡ refusal 13 (lost st))
+    ∷ ((st : State) (s : List ℕ) → s ≢ [] → bitsFrom s 0 5 ≡ 30 → readBytes st s ≡ refusal 13 2 (lost st))
     -- fresh, 90 00: 11 bits used, extension empty
-    ∷ (readFrom fresh (144 ∷ 0 ∷ []) 0 2 ≡ accepted 11 emptyExtension withExtension)
+    ∷ (readFrom fresh (rangeIn (144 ∷ 0 ∷ []) 0 2) ≡ accepted 11 emptyExtension withExtension)
     -- escape 00000: 16
     ∷ (escape (0 ∷ []) 0 5 ≡ got 16 5)
     -- eight ones, 0, twelve ones: 8191

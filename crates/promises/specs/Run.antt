@@ -25,8 +25,9 @@ stereo = record {
 
 -- the answer to a payload
 abbrev pub turnOf : Reading → Turn State Contents
-turnOf r = record { outcome = pick (eqb (r .number) 0) (answered (r .contents) (r .bits)) (refusal (r .number)); state = r .state }
+turnOf r =
+    record { outcome = pick (eqb (r .number) 0) (answered (r .contents) (r .bits)) (refusal (r .number) (r .place)); state = r .state }
 
 -- the answer to a report
 abbrev pub reportOf : Report → Turn State Contents
-reportOf r = record { outcome = pick (eqb (r .number) 0) reported (refusal (r .number)); state = r .state }
+reportOf r = record { outcome = pick (eqb (r .number) 0) reported (refusal (r .number) 0); state = r .state }

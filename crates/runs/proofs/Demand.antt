@@ -9,6 +9,7 @@ use mathlib.Core.Logic.{_≢_}
 use native.Mathlib.Nat.{add-zero}
 use lib.ListN.{length, drop}
 use lib.Seq.{drop-append-add}
+use Rattle.bits.specs.Payload.{Range}
 use Rattle.runs.specs.Machine.{Event, payload, Machine, Turn, turn, run, after}
 use Rattle.runs.specs.Damage.{Steady, Restarting, NoRestart, Silent, AllLost}
 use Rattle.runs.proofs.TurnLaws.{turn-sound, after-sound, restart-turn, turn-lost, quiet-turn}
@@ -37,9 +38,9 @@ run-from {S} {C} M st es fs =
 
 module _ {S C : Type 0} (M : Machine S C) (law : Steady M) where
   -- from a restart on all is the same, whatever was before
-  from-restart : (st st′ : S) (b : List ℕ) (x y : ℕ) (rest : List Event) → M .sound st′ ≡ true → Restarting M (turn M st (payload b x y))
-      → run M st′ (payload b x y ∷ rest) ≡ run M st (payload b x y ∷ rest)
-  from-restart st st′ b x y rest h w = ap (λ (t : Turn S C). t ∷ run M (t .state) rest) (restart-turn M law st st′ b x y h w)
+  from-restart : (st st′ : S) (p : Range) (rest : List Event) → M .sound st′ ≡ true → Restarting M (turn M st (payload p))
+      → run M st′ (payload p ∷ rest) ≡ run M st (payload p ∷ rest)
+  from-restart st st′ p rest h w = ap (λ (t : Turn S C). t ∷ run M (t .state) rest) (restart-turn M law st st′ p h w)
 
   -- a stretch that is not empty and was wholly lost leaves the state out of step
   stretch-lost : (st : S) (e : Event) (es : List Event) → AllLost (run M st (e ∷ es)) → M .inStep (after M st (e ∷ es)) ≡ false
@@ -55,12 +56,12 @@ module _ {S C : Type 0} (M : Machine S C) (law : Steady M) where
       (q .0, quiet-run (turn M st e .state) (turn M st′ e .state) es (turn-sound M law st′ e h) (q .1) (n .1))
 
   -- the demand: in place of a stretch of a run stand any other events; between it and the payload none is a restart; the payload is one
-  module _ (before stretch spoilt between : List Event) (b : List ℕ) (x y : ℕ) (rest : List Event) where
-    pub restored : Restarting M (turn M (after M (M .fresh) (before ++ stretch ++ between)) (payload b x y))
-        → run M (after M (M .fresh) (before ++ spoilt ++ between)) (payload b x y ∷ rest)
-        ≡ run M (after M (M .fresh) (before ++ stretch ++ between)) (payload b x y ∷ rest)
+  module _ (before stretch spoilt between : List Event) (p : Range) (rest : List Event) where
+    pub restored : Restarting M (turn M (after M (M .fresh) (before ++ stretch ++ between)) (payload p))
+        → run M (after M (M .fresh) (before ++ spoilt ++ between)) (payload p ∷ rest)
+        ≡ run M (after M (M .fresh) (before ++ stretch ++ between)) (payload p ∷ rest)
     restored w =
-        from-restart (after M (M .fresh) (before ++ stretch ++ between)) (after M (M .fresh) (before ++ spoilt ++ between)) b x y rest
+        from-restart (after M (M .fresh) (before ++ stretch ++ between)) (after M (M .fresh) (before ++ spoilt ++ between)) p rest
         (after-sound M law (M .fresh) (before ++ spoilt ++ between) (law .fresh-sound)) w
 
     pub nothing-between : spoilt ≢ [] → AllLost (run M (after M (M .fresh) before) spoilt)

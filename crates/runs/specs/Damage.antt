@@ -29,7 +29,7 @@ NoRestart M (t ∷ ts) = (Restarting M t → ⊥) × NoRestart M ts
 
 abbrev pub isAnswer : {C : Type 0} → Outcome C → Bool
 isAnswer (answered c n) = true
-isAnswer (refusal n) = false
+isAnswer (refusal n place) = false
 isAnswer reported = false
 
 -- every turn is answered, or none is
@@ -44,7 +44,7 @@ Silent (t ∷ ts) = (isAnswer (t .outcome) ≡ false) × Silent ts
 -- refused with 10 to 35, or reported missing
 abbrev pub isLost : {C : Type 0} → Outcome C → Bool
 isLost (answered c n) = false
-isLost (refusal n) = leb 10 n && leb n 35
+isLost (refusal n place) = leb 10 n && leb n 35
 isLost reported = true
 
 abbrev pub AllLost : {S C : Type 0} → List (Turn S C) → Type 0

@@ -1,21 +1,22 @@
 -- The reading laws of a payload: no bit outside counts, and no cut goes unseen.
 -- Assumes nothing.
 use Prim.Native.Nat.{ℕ, _*_, _<_}
-use mathlib.Core.Path.{_≡_}
+use mathlib.Core.Path.{_≡_, refl}
 use mathlib.Core.Bool.{Bool}
 use mathlib.Core.List.{List}
 use lib.Dec.{eqb}
 use lib.ListN.{take}
 use Rattle.bits.specs.Reader.{got, refused, pick}
 use Rattle.bits.specs.Payload.{whole}
-use Rattle.bits.specs.Inside.{leftOver}
+use Rattle.bits.specs.Inside.{Fill, leftOver}
 use Rattle.bits.specs.Field.{field}
 use Rattle.bits.specs.Places.{here, refuseAt}
-use Rattle.bits.proofs.Lawful.{Lawful, bind-lawful, give-lawful, pick-lawful, expecting-lawful}
+use native.Mathlib.Omega.{arith}
+use Rattle.bits.proofs.Lawful.{Lawful, never, same-place, split, after-local, after-placed, bind-lawful, give-lawful, pick-lawful}
+use Rattle.bits.proofs.Lawful.{expecting-lawful}
 use Rattle.bits.proofs.FieldLaws.{field-lawful, zeroBit-lawful}
 use Rattle.bits.proofs.LoopLaws.{listed-lawful}
-use Rattle.bits.proofs.PlacesLaws.{here-lawful}
-use Rattle.bits.proofs.InsideLaws.{Filling, refusing-filling, then-filling, filling-then, leftOver-filling, inside-lawful}
+use Rattle.bits.proofs.InsideLaws.{Filling, then-filling, filling-then, leftOver-filling, inside-lawful}
 use Rattle.bits.proofs.PayloadLaws.{whole-cut}
 use Rattle.stereo_indices.proofs.ReadingLaws.{row-lawful, rows-lawful}
 use Rattle.stereo_indices.specs.declared.Record.{Record}
@@ -73,9 +74,16 @@ unfolding v0
 v0-lawful m ipd opd n = search (lawful, flag-lawful, phases-lawful) depth 12
 
 another-filling : Filling another
-unfolding another refuseAt
-another-filling = then-filling here _ here-lawful λ place. then-filling (field 2) _ (field-lawful 2) λ id.
-    refusing-filling (pick (eqb id 0) 33 13) (λ at. place)
+unfolding another here refuseAt
+another-filling = record {
+  full = λ s at end next x h e. never (split (field 2 s at end) _ s end next x e .3);
+  placed = λ s at end n p h.
+      after-placed (field 2) _ s at end n p (λ m q. field-lawful 2 .placed s at end m q h)
+      (λ id m f e. let q = same-place {A = Fill} e in omega arith);
+  local = λ s t at end h q.
+      after-local (field 2) (λ id. refuseAt (pick (eqb id 0) 33 13) at) s t at end (field-lawful 2 .accepts .local s t at end h q)
+      (λ id m e. refl);
+}
 
 pub part-filling : (m : ℕ) (ipd opd : Record) (n : ℕ) → Filling (part m ipd opd n)
 unfolding part

@@ -1,7 +1,7 @@
 -- What a call answers beside the lent state.
 use Prim.Native.Nat.{ℕ}
 use mathlib.Core.Path.{_≡_}
-use mathlib.Core.List.{List}
+use Rattle.bits.specs.Payload.{Range}
 use Rattle.stereo.specs.declared.State.{State}
 use Rattle.stereo_reader.specs.Reading.{readFrom, missing}
 use Rattle.stereo_reader.specs.declared.Reading.{Reading}
@@ -10,15 +10,15 @@ use Rattle.stereo_lent.specs.declared.Apart.{Apart}
 
 -- a reading without its state
 abbrev pub answerOf : Reading → Answer
-answerOf r = record { number = r .number; bits = r .bits; contents = r .contents }
+answerOf r = record { number = r .number; place = r .place; bits = r .bits; contents = r .contents }
 
 -- a reading, its state apart
 abbrev pub apartOf : Reading → Apart
 apartOf r = record { state = r .state; answer = answerOf r }
 
 -- what is promised of a payload and of a report: the answer, and the lent state afterwards
-abbrev pub LentReadPromise : State → List ℕ → ℕ → ℕ → Answer → State → Type 0
-LentReadPromise st bytes start end r after = (r ≡ answerOf (readFrom st bytes start end)) × (after ≡ readFrom st bytes start end .state)
+abbrev pub LentReadPromise : State → Range → Answer → State → Type 0
+LentReadPromise st p r after = (r ≡ answerOf (readFrom st p)) × (after ≡ readFrom st p .state)
 
 abbrev pub LentMissingPromise : State → ℕ → State → Type 0
 LentMissingPromise st r after = (r ≡ missing st .number) × (after ≡ missing st .state)

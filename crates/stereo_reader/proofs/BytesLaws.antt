@@ -16,7 +16,7 @@ use Rattle.stereo.proofs.PayloadNear.{payload-near}
 module _ (st : State) (s : List ℕ) where
   pub bytes-left : (c : Contents) (next : ℕ) → payload (from st) s 0 (8 * min (length s) 1025) ≡ got c next
       → 7 < 8 * min (length s) 1025 - next
-      → refusal 12 (lost st) ≡ readBytes st s
+      → refusal 12 next (lost st) ≡ readBytes st s
   unfolding readBytes
   bytes-left c next q h = rw (near-left 1024 (payload (from st)) (payload-near (from st)) s q h)
 
@@ -27,6 +27,6 @@ module _ (st : State) (s : List ℕ) where
   bytes-got c next q h = rw (near-got 1024 (payload (from st)) (payload-near (from st)) s q h)
 
   pub bytes-refused : (n place : ℕ) → payload (from st) s 0 (8 * min (length s) 1025) ≡ refused n place
-      → refusal n (lost st) ≡ readBytes st s
+      → refusal n place (lost st) ≡ readBytes st s
   unfolding readBytes
   bytes-refused n place q = rw (near-refused 1024 (payload (from st)) (payload-near (from st)) s q)

@@ -1,11 +1,11 @@
 -- What the stereo reader answers: a payload in step or out of step, and a payload reported missing.
 use Prim.Native.Nat.{ℕ}
 use mathlib.Core.Path.{_≡_}
-use mathlib.Core.List.{List}
+use mathlib.Core.List.{List, [], _∷_}
 use mathlib.Core.Bool.{_||_}
-use lib.ListN.{length}
 use Rattle.bits.specs.Reader.{Answer, got, refused, pick}
-use Rattle.bits.specs.Payload.{inBuffer, range, whole}
+use Rattle.bits.specs.Payload.{Range, isThere, bytesIn, whole}
+use Rattle.bits.specs.Calls.{_or_, firstRefusal}
 use Rattle.stereo.specs.State.{fresh, sound, lost}
 use Rattle.stereo.specs.Payload.{noContents, payload}
 use Rattle.stereo.specs.Carried.{carried}
@@ -19,36 +19,38 @@ use Rattle.stereo.specs.Restart.{restart}
 abbrev pub from : State → State
 from st = pick (st .instep) st fresh
 
--- a refusal: every other number is 0
-abbrev pub refusal : ℕ → State → Reading
-refusal n st = record { number = n; bits = 0; contents = noContents; state = st }
+-- a refusal: every number but its own and its place is 0
+abbrev pub refusal : ℕ → ℕ → State → Reading
+refusal n place st = record { number = n; place = place; bits = 0; contents = noContents; state = st }
 
--- what was read is accepted in step, or where it is a restart; else 35
+-- contents that are accepted, with the bits that they used and the state after them
+abbrev pub acceptance : State → Contents → ℕ → Reading
+acceptance st c bits = record { number = 0; place = 0; bits = bits; contents = c; state = carried (from st) c }
+
+-- what was read is accepted in step, or where it is a restart; else 35, at the first bit unused
 unfoldable pub taken : State → Contents → ℕ → Reading
-taken st c bits = pick (st .instep || restart c) (record { number = 0; bits = bits; contents = c; state = carried (from st) c })
-    (refusal 35 (lost st))
+taken st c bits = pick (st .instep || restart c) (acceptance st c bits) (refusal 35 bits (lost st))
 
 -- a refusal from the payload's bits on touches only the mark
 abbrev pub readingOf : State → Answer Contents → Reading
 readingOf st (got c bits) = taken st c bits
-readingOf st (refused n place) = refusal n (lost st)
+readingOf st (refused n place) = refusal n place (lost st)
 
 -- a payload's bytes
 unfoldable pub readBytes : State → List ℕ → Reading
 readBytes st bytes = readingOf st (whole (payload (from st)) bytes)
 
--- a range of a buffer: 1, then 4, then the payload's own
-unfoldable pub readFrom : State → List ℕ → ℕ → ℕ → Reading
-readFrom st bytes start end =
-    pick (inBuffer start end (length bytes)) (pick (sound st) (readBytes st (range bytes start end)) (refusal 4 st)) (refusal 1 st)
+-- a range of a buffer: the range and the state are judged before any bit
+unfoldable pub readFrom : State → Range → Reading
+readFrom st p = firstRefusal (isThere p or 1 ∷ sound st or 4 ∷ []) (λ n. refusal n 0 st) (readBytes st (bytesIn p))
 
 -- a payload reported missing: refused only with 4
 unfoldable pub missing : State → Report
-missing st = pick (sound st) (record { number = 0; state = lost st }) (record { number = 4; state = st })
+missing st = firstRefusal (sound st or 4 ∷ []) (λ n. record { number = n; state = st }) (record { number = 0; state = lost st })
 
 -- what is promised of a payload in a range of a buffer, and of a report
-abbrev pub ReadPromise : State → List ℕ → ℕ → ℕ → Reading → Type 0
-ReadPromise st bytes start end r = r ≡ readFrom st bytes start end
+abbrev pub ReadPromise : State → Range → Reading → Type 0
+ReadPromise st p r = r ≡ readFrom st p
 
 abbrev pub MissingPromise : State → Report → Type 0
 MissingPromise st r = r ≡ missing st

@@ -11,9 +11,10 @@ use stereo::payloads;
 use stereo::states;
 use stereo::turns;
 
-// The answer to a payload: the refusal, or 0, how many bits it used, its contents, and the next state.
+// The answer to a payload: the refusal and the bit at which it was refused, or 0, how many bits it used, its contents, and the next state.
 pub struct Reading {
     pub number: u8,
+    pub place: usize,
     pub bits: usize,
     pub contents: Contents,
     pub state: State,
@@ -25,28 +26,30 @@ pub struct Report {
     pub state: State,
 }
 
-// A refusal: every other number is 0.
+// A refusal before any bit: every other number is 0.
 fn refused(number: u8, state: State) -> Reading
-    ensures { λ r. ⌜ r ≡ refusal number state ⌝ }
+    ensures { λ r. ⌜ r ≡ refusal number 0 state ⌝ }
 {
     let contents = payloads::no_contents();
     Reading {
         number,
+        place: 0,
         bits: 0,
         contents,
         state,
     }
 }
 
-// A refusal that sets the mark.
-fn refused_at(number: u8, state: State) -> Reading
-    ensures { λ r. ⌜ r ≡ refusal number (lost state) ⌝ }
+// A refusal at a bit, which sets the mark.
+fn refused_at(number: u8, place: usize, state: State) -> Reading
+    ensures { λ r. ⌜ r ≡ refusal number place (lost state) ⌝ }
 {
     let contents = payloads::no_contents();
     let mut next = state;
     next.instep = false;
     Reading {
         number,
+        place,
         bits: 0,
         contents,
         state: next,
@@ -78,12 +81,13 @@ fn taken(state: State, contents: Contents, bits: usize) -> Reading
     ensures { λ r. ⌜ r ≡ taken state contents bits ⌝ }
 {
     if !is_accepted(state, contents) {
-        return refused_at(35, state);
+        return refused_at(35, bits, state);
     }
     let before = read_from(state);
     let next = turns::carried(before, contents);
     Reading {
         number: 0,
+        place: 0,
         bits,
         contents,
         state: next,
@@ -104,17 +108,17 @@ pub fn read_bytes(state: State, s: &[u8]) -> Reading
     match ended {
         Ended::At(bits) => {
             if 7 < bits::remaining(bits, end) {
-                return refused_at(12, state);
+                return refused_at(12, bits, state);
             }
             taken(state, read.contents, bits)
         }
-        Ended::Refused(number, _) => refused_at(number, state),
+        Ended::Refused(number, place) => refused_at(number, place, state),
     }
 }
 
 // A payload in a range of a buffer: what it holds, how many bits it used, and the next state.
 pub fn read(state: State, bytes: &[u8], start: usize, end: usize) -> Reading
-    ensures { λ r. ⌜ ReadPromise state (now (bytes .entry)) start end r ⌝ }
+    ensures { λ r. ⌜ ReadPromise state (record { bytes = now (bytes .entry); start = start; end = end }) r ⌝ }
 {
     if end < start {
         return refused(1, state);

@@ -22,7 +22,7 @@ use Rattle.stereo.specs.State.{sound, lost}
 use Rattle.stereo.specs.Payload.{payload}
 use Rattle.stereo.specs.Carried.{carried}
 use Rattle.stereo.specs.Restart.{restart}
-use Rattle.stereo_reader.specs.Reading.{from, refusal, taken, readingOf, readBytes}
+use Rattle.stereo_reader.specs.Reading.{from, refusal, acceptance, taken, readingOf, readBytes}
 use Rattle.stereo.specs.declared.State.{State}
 use Rattle.stereo.specs.declared.Contents.{Contents}
 use Rattle.stereo_reader.specs.declared.Reading.{Reading}
@@ -59,7 +59,7 @@ bytes-read st c e =
     let w = spelling st c in
     let l = packed-length (spelling st c) in
     whole-is (payload st) (packed w) (total w) c
-    (payload-lawful st .stable (packed w) 0 (total w) (total w) (8 * length (packed w)) c (omega arith) (spelling-is st c e)
+    (payload-lawful st .accepts .stable (packed w) 0 (total w) (total w) (8 * length (packed w)) c (omega arith) (spelling-is st c e)
     (omega arith)) (omega arith)
 
 -- contents that were read can be written
@@ -93,8 +93,8 @@ accepted st s e = answer (whole (payload (from st)) s) refl
         × (r .state ≡ carried (from st) (r .contents))
 
     step : (c : Contents) (n : ℕ) → whole (payload (from st)) s ≡ got c n → (t : Bool) → (st .instep || restart c) ≡ t
-        → pick t (record { number = 0; bits = n; contents = c; state = carried (from st) c }) (refusal 35 (lost st)) .number ≡ 0
-        → Of (pick t (record { number = 0; bits = n; contents = c; state = carried (from st) c }) (refusal 35 (lost st)))
+        → pick t (acceptance st c n) (refusal 35 n (lost st)) .number ≡ 0
+        → Of (pick t (acceptance st c n) (refusal 35 n (lost st)))
     step c n q true h e = (q, h, refl)
     step c n q false h e = absurd (omega arith)
 
@@ -135,7 +135,7 @@ success st c room e =
 -- what is written is accepted from the same state, with those contents, that bit count and the same next state
 pub write-read : (st : State) (c : Contents) (room : ℕ) → writing st c room .number ≡ 0
     → readBytes st (packed (spelling (from st) c))
-    ≡ record { number = 0; bits = writing st c room .bits; contents = c; state = writing st c room .state }
+    ≡ record { number = 0; place = 0; bits = writing st c room .bits; contents = c; state = writing st c room .state }
 unfolding readBytes taken
 write-read st c room e =
     let w = success st c room e in

@@ -1,7 +1,7 @@
 -- The stereo writer: refusals in the order 4, 40, 35, 2.
 use Prim.Native.Nat.{ℕ}
 use mathlib.Core.Path.{_≡_}
-use mathlib.Core.List.{List, _++_}
+use mathlib.Core.List.{List, [], _∷_, _++_}
 use mathlib.Core.Bool.{Bool, _||_}
 use lib.Dec.{eqb, leb}
 use lib.ListN.{length, drop}
@@ -9,6 +9,7 @@ use Rattle.bits.specs.Reader.{pick}
 use Rattle.bits.specs.Pieces.{total}
 use Rattle.bits.specs.Packed.{bytesFor, packed}
 use Rattle.bits.specs.Writable.{writable}
+use Rattle.bits.specs.Calls.{Test, _or_, firstRefusal}
 use Rattle.stereo.specs.State.{sound}
 use Rattle.stereo.specs.Payload.{payload}
 use Rattle.stereo.specs.Carried.{carried}
@@ -28,19 +29,20 @@ canWrite st = writable sameContents (payload st) (spelling st)
 abbrev pub unwritten : ℕ → State → Written
 unwritten n st = record { number = n; bits = 0; state = st }
 
--- contents that can be written, from the state that a payload is read from, into so many bytes
-abbrev pub written : State → Contents → ℕ → Written
-written st c room =
-    pick (leb (bytesFor (total (spelling (from st) c))) room)
-    (record { number = 0; bits = total (spelling (from st) c); state = carried (from st) c })
-    (unwritten 2 st)
+-- what is judged: the state, the contents, the step, and whether the payload fits so many bytes
+abbrev pub writeTests : State → Contents → ℕ → List Test
+writeTests st c room =
+    sound st or 4
+    ∷ canWrite (from st) c or 40
+    ∷ (st .instep || restart c) or 35
+    ∷ leb (bytesFor (total (spelling (from st) c))) room or 2
+    ∷ []
 
--- 4, 40, 35, 2; a success leaves what the reader would hold
+-- a success leaves what the reader would hold
 unfoldable pub writing : State → Contents → ℕ → Written
 writing st c room =
-    pick (sound st)
-    (pick (canWrite (from st) c) (pick (st .instep || restart c) (written st c room) (unwritten 35 st)) (unwritten 40 st))
-    (unwritten 4 st)
+    firstRefusal (writeTests st c room) (λ n. unwritten n st)
+    (record { number = 0; bits = total (spelling (from st) c); state = carried (from st) c })
 
 -- the buffer afterwards: the payload, its last byte filled up with zero bits, and the bytes past it untouched; a refusal leaves it
 unfoldable pub writtenOver : Written → State → Contents → List ℕ → List ℕ

@@ -1,15 +1,16 @@
 -- What a scan of a table answers, by the words that fit and those that are cut off.
 -- Assumes nothing.
 use Prim.Native.Nat.{ℕ, zero, suc, _+_, _<_, _≤_}
-use mathlib.Core.Path.{_≡_, refl}
+use mathlib.Core.Path.{_≡_, refl, sym}
 use mathlib.Core.Bool.{Bool, true, false, _||_}
 use mathlib.Core.List.{List, [], _∷_}
 use mathlib.Core.Logic.{_⊎_, inl, inr}
 use native.Mathlib.Omega.{arith}
 use native.Mathlib.Nat.{not-suc-le-zero, add-zero}
 use lib.ListN.{length, getD}
-use Rattle.bits.specs.Reader.{got, refused, pick}
+use Rattle.bits.specs.Reader.{Answer, got, refused, pick}
 use Rattle.bits.proofs.BitLaws.{Same}
+use Rattle.bits.proofs.Lawful.{not-refused, same-place}
 use Rattle.words.specs.Words.{fits, cutOff, scan}
 use Rattle.words.proofs.FitLaws.{fits-same, cut-same}
 
@@ -137,3 +138,24 @@ scan-neither (c ∷ cs) [] i s at end n = refl
 scan-neither (c ∷ cs) (l ∷ ls) i s at end n =
     let u = n 0 (omega arith) (omega arith) in
     simp (u .0, u .1) (scan-neither cs ls (i + 1) s at end (λ k a b. n (suc k) (omega arith) (omega arith)))
+
+-- the end of a scan
+end-of : (short : Bool) (at n p : ℕ) → _≡_ {A = Answer ℕ} (pick short (refused 10 at) (refused 11 at)) (refused n p)
+    → (at ≡ p) × ((n ≡ 10) ⊎ (n ≡ 11))
+end-of true at n p e = let z : 10 ≡ n = cc in (same-place {A = ℕ} e, inl (sym z))
+end-of false at n p e = let z : 11 ≡ n = cc in (same-place {A = ℕ} e, inr (sym z))
+
+-- a scan is refused where it began, with 10 or 11
+pub scan-refused : (cs ls : List ℕ) (i : ℕ) (short : Bool) (s : List ℕ) (at end n p : ℕ) → scan cs ls i short s at end ≡ refused n p
+    → (at ≡ p) × ((n ≡ 10) ⊎ (n ≡ 11))
+unfolding scan
+scan-refused [] ls i short s at end n p e = end-of short at n p e
+scan-refused (c ∷ cs) [] i short s at end n p e = end-of short at n p e
+scan-refused (c ∷ cs) (l ∷ ls) i short s at end n p e =
+    go (fits c l s at end) (scan-refused cs ls (i + 1) (short || cutOff c l s at end) s at end n p) e
+  where
+    go : (b : Bool) → (scan cs ls (i + 1) (short || cutOff c l s at end) s at end ≡ refused n p → (at ≡ p) × ((n ≡ 10) ⊎ (n ≡ 11)))
+        → pick b (got i (at + l)) (scan cs ls (i + 1) (short || cutOff c l s at end) s at end) ≡ refused n p
+        → (at ≡ p) × ((n ≡ 10) ⊎ (n ≡ 11))
+    go true ih e = not-refused e
+    go false ih e = ih e

@@ -27,7 +27,7 @@ use Rattle.words.specs.Words.{fits, cutOff, word}
 use Rattle.words.specs.Table.{isPrefix, prefixFree, kraft, sized}
 use Rattle.words.proofs.FitLaws.{fit-of, fit-parts, cut-of, cut-parts}
 use Rattle.words.proofs.PrefixLaws.{hits, hit-some, covered-by, gap, prefix-rule, sized-at}
-use Rattle.words.proofs.ScanAnswers.{scan-11, scan-got, scan-is, scan-10, scan-same, scan-neither}
+use Rattle.words.proofs.ScanAnswers.{scan-11, scan-got, scan-is, scan-10, scan-same, scan-neither, scan-refused}
 
 -- a window of r bits, filled up with zeros to M
 aligned : (b M r l : ℕ) → r ≤ M → l ≤ r → b * 2 ^ (M - r) / 2 ^ (M - l) ≡ b / 2 ^ (r - l)
@@ -114,30 +114,33 @@ module _ (cs ls : List ℕ) (f : T (prefixFree cs ls)) where
   pub word-lawful : Lawful (word cs ls)
   unfolding word
   word-lawful = record {
-    within = λ s at end next a h e.
-        let w = scan-got cs ls 0 false s at end a next e in
-        let u = fit-parts (getD cs (w .0) 0) (getD ls (w .0) 0) s at end (w .4) in
-        omega arith;
-    local = λ s t at end h q. scan-same cs ls 0 false s t at end h q;
-    stable = λ s at end next end′ a h e l.
-        let w = scan-got cs ls 0 false s at end a next e in
-        let u = fit-parts (getD cs (w .0) 0) (getD ls (w .0) 0) s at end (w .4) in
-        let x = word-is s at end′ (w .0) (w .1) (w .2) (fit-of (getD cs (w .0) 0) (getD ls (w .0) 0) s at end′ (omega arith) (u .1)) in
-        let y : a ≡ w .0 = omega arith in
-        x ∙ ap₂ got (sym y) (sym (w .5));
-    cut = λ s at end next end′ a h e l g.
-        let w = scan-got cs ls 0 false s at end a next e in
-        let u = fit-parts (getD cs (w .0) 0) (getD ls (w .0) 0) s at end (w .4) in (
-          at,
-          scan-10 cs ls 0 false s at end′ (λ j a b. cut-none s at end end′ (w .0) (w .1) (w .2) (w .4) (omega arith) l j a b) (inr (
-            w .0,
-            w .1,
-            w .2,
-            cut-of (getD cs (w .0) 0) (getD ls (w .0) 0) s at end′ (omega arith)
-                (sym (bitsFrom-prefix s at (end′ - at) (getD ls (w .0) 0) (omega arith))
-                ∙ ap (λ (z : ℕ). z / 2 ^ (getD ls (w .0) 0 - (end′ - at))) (u .1)),
-          )),
-        );
+    accepts = record {
+      within = λ s at end next a h e.
+          let w = scan-got cs ls 0 false s at end a next e in
+          let u = fit-parts (getD cs (w .0) 0) (getD ls (w .0) 0) s at end (w .4) in
+          omega arith;
+      local = λ s t at end h q. scan-same cs ls 0 false s t at end h q;
+      stable = λ s at end next end′ a h e l.
+          let w = scan-got cs ls 0 false s at end a next e in
+          let u = fit-parts (getD cs (w .0) 0) (getD ls (w .0) 0) s at end (w .4) in
+          let x = word-is s at end′ (w .0) (w .1) (w .2) (fit-of (getD cs (w .0) 0) (getD ls (w .0) 0) s at end′ (omega arith) (u .1)) in
+          let y : a ≡ w .0 = omega arith in
+          x ∙ ap₂ got (sym y) (sym (w .5));
+      cut = λ s at end next end′ a h e l g.
+          let w = scan-got cs ls 0 false s at end a next e in
+          let u = fit-parts (getD cs (w .0) 0) (getD ls (w .0) 0) s at end (w .4) in (
+            at,
+            scan-10 cs ls 0 false s at end′ (λ j a b. cut-none s at end end′ (w .0) (w .1) (w .2) (w .4) (omega arith) l j a b) (inr (
+              w .0,
+              w .1,
+              w .2,
+              cut-of (getD cs (w .0) 0) (getD ls (w .0) 0) s at end′ (omega arith)
+                  (sym (bitsFrom-prefix s at (end′ - at) (getD ls (w .0) 0) (omega arith))
+                  ∙ ap (λ (z : ℕ). z / 2 ^ (getD ls (w .0) 0 - (end′ - at))) (u .1)),
+            )),
+          );
+    };
+    placed = λ s at end n p h e. let q = scan-refused cs ls 0 false s at end n p e .0 in omega arith;
   }
 
   -- a word that the bits are cut off from is the only one that they are the start of: the answer is 10

@@ -2,43 +2,25 @@
 -- Assumes nothing.
 use Prim.Native.Nat.{ℕ, zero, suc, _+_}
 use mathlib.Core.Path.{_≡_, sym, _∙_, ap, subst}
-use mathlib.Core.List.{List, [], _∷_}
-use mathlib.Core.Bool.{Bool, true, false, _||_}
-use mathlib.Core.Logic.{_⊎_, inl, inr}
-use native.Mathlib.Omega.{arith}
+use mathlib.Core.List.{List}
+use mathlib.Core.Bool.{Bool, true, false}
+use mathlib.Core.Logic.{inl, inr}
 use lib.Dec.{T, eqb}
-use Rattle.bits.specs.Reader.{Answer, got, refused, pick}
+use Rattle.bits.specs.Reader.{refused}
 use Rattle.bits.specs.Field.{field}
 use Rattle.bits.proofs.Numbered.{Numbered, bind-numbered, field-numbered, give-numbered, refusing-numbered, pick-numbered}
 use Rattle.bits.proofs.Numbered.{oneField-numbered}
-use Rattle.words.specs.Words.{fits, cutOff, scan, word}
+use Rattle.words.specs.Words.{word}
 use Rattle.words.specs.Table.{complete}
 use Rattle.words.specs.Escape.{ones, magnitude, escape}
 use Rattle.words.proofs.CompleteLaws.{complete-never-11}
-
--- the end of a scan
-end-of : (short : Bool) (at n p : ℕ) → _≡_ {A = Answer ℕ} (pick short (refused 10 at) (refused 11 at)) (refused n p) → (n ≡ 10) ⊎ (n ≡ 11)
-end-of true at n p e = let z : 10 ≡ n = cc in inl (sym z)
-end-of false at n p e = let z : 11 ≡ n = cc in inr (sym z)
-
-scan-refused : (cs ls : List ℕ) (i : ℕ) (short : Bool) (s : List ℕ) (at end n p : ℕ) → scan cs ls i short s at end ≡ refused n p
-    → (n ≡ 10) ⊎ (n ≡ 11)
-unfolding scan
-scan-refused [] ls i short s at end n p e = end-of short at n p e
-scan-refused (c ∷ cs) [] i short s at end n p e = end-of short at n p e
-scan-refused (c ∷ cs) (l ∷ ls) i short s at end n p e =
-    go (fits c l s at end) (scan-refused cs ls (i + 1) (short || cutOff c l s at end) s at end n p) e
-  where
-    go : (b : Bool) → (scan cs ls (i + 1) (short || cutOff c l s at end) s at end ≡ refused n p → (n ≡ 10) ⊎ (n ≡ 11))
-        → pick b (got i (at + l)) (scan cs ls (i + 1) (short || cutOff c l s at end) s at end) ≡ refused n p → (n ≡ 10) ⊎ (n ≡ 11)
-    go true ih e = let z : _≡_ {A = ℕ} 0 1 = cc in absurd (omega arith)
-    go false ih e = ih e
+use Rattle.words.proofs.ScanAnswers.{scan-refused}
 
 pub word-numbered : (among : ℕ → Bool) → among 10 ≡ true → (cs ls : List ℕ) → T (complete cs ls) → Numbered among (word cs ls)
 unfolding word
 word-numbered among o cs ls t = record {
   law = λ s at end n p e.
-      elim (scan-refused cs ls 0 false s at end n p e) [
+      elim (scan-refused cs ls 0 false s at end n p e .1) [
         | inl z ↦ subst (λ (k : ℕ). among k ≡ true) (sym z) o
         | inr z ↦ absurd (complete-never-11 cs ls t s at end p (e ∙ ap (λ (k : ℕ). refused k p) z))
       ];

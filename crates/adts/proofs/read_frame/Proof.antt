@@ -4,8 +4,10 @@ use mathlib.Core.Bool.{true}
 use lib.ListN.{length}
 use borrow.Author.Needs.{needs}
 use borrow.Author.Tests.{le-leb, lt-leb, not-true, not-false}
-use Rattle.adts.specs.Promise.{headerAt, outputsFit}
-use Rattle.adts.proofs.PromiseLaws.{outputs-room, rest-is}
+use Rattle.channel.specs.Promise.{outputsFit}
+use Rattle.channel.proofs.PromiseLaws.{outputs-room}
+use Rattle.adts.specs.Promise.{headerAt}
+use Rattle.adts.proofs.PromiseLaws.{rest-is}
 use Rattle.adts.proofs.read_frame.Statement.{statement}
 use Rattle.adts.proofs.read_frame.Tie as tie
 
@@ -14,7 +16,7 @@ entry c = c .before .before .before .before .before .before
 
 returns : tie.Need-returns
 unfolding headerAt
-returns c = rw (lt-leb _ _ (c .before .if1 .taken)) (c .unframed .ensures, (refl, (refl, refl)))
+returns c = rw (lt-leb _ _ (c .before .if1 .taken)) (c .unframed .ensures, refl)
 
 returns-2 : tie.Need-returns-2
 unfolding headerAt
@@ -22,7 +24,7 @@ returns-2 c =
     let fit = c .before .before .outputs-fit in
     let no = sym (fit .ensures) ∙ not-true (fit .result) (c .before .if2 .taken) in
     let there = le-leb _ _ (c .before .before .before .if1 .left) in
-    rw (there, no) (c .unframed2 .ensures, (refl, (refl, refl)))
+    rw (there, no) (c .unframed2 .ensures, refl)
 
 -- past the judgement the outputs fit
 roomy : (c : tie.Else2)
@@ -40,7 +42,8 @@ returns-3 c =
     let a = entry judged .args in
     let there = le-leb _ _ (judged .before .before .if1 .left) in
     let rest = rest-is (a .file .now) (a .start) in
-    rw (there, roomy judged) (rw rest at (read .read-first .ensures))
+    let e = rw rest at (read .read-first .ensures) in
+    rw (there, roomy judged) (e .0, λ j. record { lines = e .1 .0 j; factors = e .1 .1 .0 j; books = e .1 .1 .1 j })
 
 pub read-frame-spec : {M : Type 1} → statement M
 read-frame-spec =

@@ -3,7 +3,13 @@ use Prim.Native.Nat.{_≤_}
 use mathlib.Core.Path.{refl, sym, _∙_}
 use lib.ListN.{length}
 use borrow.Author.Needs.{needs}
-use Rattle.channel.proofs.PromiseLaws.{refusal-well, channel-not, channel-is}
+use mathlib.Core.Bool.{true}
+use mathlib.Core.List.{List}
+use Rattle.bits.specs.Payload.{inBuffer, rangeIn}
+use Rattle.bits.specs.Calls.{Test}
+use Rattle.bits.proofs.CallLaws.{all-passed, range-in}
+use Rattle.channel.specs.Promise.{channelTests}
+use Rattle.channel.proofs.PromiseLaws.{channel-not, channel-is}
 use Rattle.adts.specs.Promise.{wrappable}
 use Rattle.adts.proofs.wrap.Statement.{statement}
 use Rattle.adts.proofs.wrap.Tie as tie
@@ -11,18 +17,21 @@ use Rattle.adts.proofs.wrap.Tie as tie
 abbrev entry : tie.Else1 → tie.Start
 entry c = c .before .before .before .before
 
+abbrev tests : tie.Else1 → List Test
+tests c = let a = entry c .args in channelTests (inBuffer (a .start) (a .end) (length (a .buf .now))) true (a .index)
+
 -- past the judgement the range lies in the buffer
 well : (c : tie.Else1) → (entry c .args .start ≤ entry c .args .end) × (entry c .args .end ≤ length (entry c .args .buf .now))
 well c =
-    let w = refusal-well _ _ _ _ _ _ _ (sym (c .before .channel-call-refusal .ensures) ∙ c .if1 .left) in
-    (w .0, w .1)
+    let passed = all-passed (tests c) tt (sym (c .before .channel-refusal .ensures) ∙ c .if1 .left) in
+    range-in _ _ _ (passed .0)
 
 returns : tie.Need-returns
 unfolding wrappable
 returns c =
     let a = c .before .before .before .before .before .args in
-    let judged = c .before .before .channel-call-refusal .ensures in
-    let no = channel-not (a .buf .now) (a .start) (a .end) (a .index) 1024 120 120 _ judged (c .before .if1 .taken) in
+    let judged = c .before .before .channel-refusal .ensures in
+    let no = channel-not (rangeIn (a .buf .now) (a .start) (a .end)) (a .index) true _ judged (c .before .if1 .taken) in
     rw no (c .unwrappable .ensures, refl)
 
 sub-wrap-slice : tie.Need-sub-wrap-slice
@@ -40,8 +49,8 @@ returns-2 c =
     let wrapped = c .before .before in
     let judged = wrapped .before .before .before in
     let a = entry judged .args in
-    let z = sym (judged .before .channel-call-refusal .ensures) ∙ judged .if1 .left in
-    rw (channel-is (a .buf .now) (a .start) (a .end) (a .index) 1024 120 120 z) (wrapped .wrap-slice .ensures)
+    let z = sym (judged .before .channel-refusal .ensures) ∙ judged .if1 .left in
+    rw (channel-is (rangeIn (a .buf .now) (a .start) (a .end)) (a .index) true z) (wrapped .wrap-slice .ensures)
 
 pub wrap-spec : {M : Type 1} → statement M
 wrap-spec =

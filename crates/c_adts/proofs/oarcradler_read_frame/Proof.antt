@@ -1,19 +1,28 @@
--- The call ends in one of three ways, and `FrameLaws` says of each what its definition gives.
+-- What is judged before the frame is asked for, then the reader's answer, told in bytes.
 -- Assumes nothing.
 use mathlib.Core.Path.{_≡_, sym, _∙_}
 use lib.ListN.{length}
 use Rattle.bits.proofs.CallLaws.{call-room}
-use Rattle.c_adts.proofs.FrameLaws.{judged, read-refused, read-not-taken, read-taken}
+use Rattle.c_adts.specs.ReadFrame.{Call}
+use Rattle.c_adts.proofs.FrameLaws.{judged, read-refused, read-short, read-told}
 use borrow.Author.Needs.{needs}
 use Rattle.c_adts.proofs.oarcradler_read_frame.Statement.{statement}
 use Rattle.c_adts.proofs.oarcradler_read_frame.Tie as tie
 
+abbrev given : tie.Start → Call
+given c =
+    let a = c .args in
+    record {
+      file = a .file .now;
+      start = a .start;
+      outputs = record { lines = a .lines .now; factors = a .factors .now; books = a .books .now };
+      answer = a .answer .now;
+    }
+
 returns : tie.Need-returns
 returns c =
     let j = c .before in
-    let a = j .before .before .before .before .before .args in
-    read-refused (a .file .now) (a .start) (a .lines .now) (a .factors .now) (a .books .now) (a .answer .now)
-    (j .call-refusal .result) (j .call-refusal .ensures) (c .if1 .taken)
+    read-refused (given (j .before .before .before .before .before)) (j .call-refusal .result) (j .call-refusal .ensures) (c .if1 .taken)
 
 abbrev start : tie.Else1 → tie.Start
 start c = c .before .before .before .before .before .before
@@ -25,33 +34,25 @@ called c = sym (c .before .call-refusal .ensures) ∙ c .if1 .left
 abbrev tested : tie.After-read-frame → tie.Else1
 tested c = c .before .before .before .before
 
+told-frame-requires : tie.Need-told-frame-requires
+told-frame-requires c κs =
+    let read = c .before .before .before .before .before .before in
+    let t = tested read in
+    let a = start t .args in (
+      call-room (length (a .file .now)) (a .start) (length (a .file .now)) 22 _ (called t),
+      read-short (given (start t)) _ _ (read .read-frame .ensures),
+    )
+
 returns-2 : tie.Need-returns-2
 returns-2 c =
-    let read = c .before .before .before .before .before .before .before .before in
-    let a = start (tested read) .args in
-    read-not-taken (a .file .now) (a .start) (a .lines .now) (a .factors .now) (a .books .now) (a .answer .now)
-    (called (tested read)) _ _ _ _ (read .read-frame .ensures) (c .before .if2 .taken)
-
-abbrev accepting : tie.Else2 → tie.After-read-frame
-accepting c = c .before .before .before .before .before .before .before
-
-put-framed-requires : tie.Need-put-framed-requires
-put-framed-requires c κs =
-    let t = tested (accepting (c .before)) in
-    let a = start t .args in
-    call-room (length (a .file .now)) (a .start) (length (a .file .now)) 22 _ (called t)
-
-returns-3 : tie.Need-returns-3
-returns-3 c =
-    let put = c .before .before in
-    let read = accepting (put .before .before) in
-    let a = start (tested read) .args in
-    read-taken (a .file .now) (a .start) (a .lines .now) (a .factors .now) (a .books .now) (a .answer .now)
-    (called (tested read)) _ _ _ _ (read .read-frame .ensures) _ (put .put-framed .ensures) (put .before .before .if2 .left)
+    let told = c .before .before in
+    let read = told .before .before .before .before .before .before .before in
+    let t = tested read in
+    let e = told .told-frame .ensures in
+    read-told (given (start t)) _ _ (read .read-frame .ensures) (called t) _ (e .0) _ (e .1)
 
 pub oarcradler-read-frame-spec : {M : Type 1} → statement M
 oarcradler-read-frame-spec =
     tie.close
-    (tie.spec (λ c κs. search needs) returns (λ c κs. search needs) (λ c. search needs) (λ c. search needs)
-    (λ c. search needs) (λ c. search needs) returns-2 put-framed-requires (λ c. search needs) (λ c. search needs)
-    (λ c. search needs) (λ c. search needs) returns-3)
+    (tie.spec (λ c κs. search needs) returns (λ c κs. search needs) told-frame-requires (λ c. search needs) (λ c. search needs)
+    (λ c. search needs) (λ c. search needs) returns-2)

@@ -1,35 +1,45 @@
--- The call ends in one of three ways, and `StereoLaws` says of each what its definition gives; where nothing was refused before the first
--- bit, the range lies in the buffer, the state is sound and the answer has room.
+-- What is judged before any bit, then the reader's answer, told in bytes; where nothing was refused before the first bit, the range lies in
+-- the buffer, the state is sound and the answer has room.
 -- Assumes nothing.
 use Prim.Native.Nat.{_≤_}
-use mathlib.Core.Path.{_≡_, sym, _∙_}
+use mathlib.Core.Path.{_≡_, sym, ap, _∙_}
 use mathlib.Core.Bool.{true}
 use native.Mathlib.Omega.{arith}
 use lib.ListN.{length}
-use Rattle.c_stereo.specs.ReadStereo.{stereoCallRefusal, stereoReading}
+use Rattle.bits.specs.Calls.{firstNumber}
+use Rattle.bits.specs.Payload.{bytesIn}
+use Rattle.stereo.specs.declared.State.{State}
+use Rattle.stereo_reader.specs.Reading.{readBytes}
 use Rattle.c_layout.specs.StateBytes.{soundBytes}
 use Rattle.c_layout.proofs.StateLaws.{sound-long}
+use Rattle.c_stereo.specs.ReadStereo.{Call, testsOf, stereoReading}
 use Rattle.c_stereo.proofs.Passed.{stereo-passed}
-use Rattle.c_stereo.proofs.StereoLaws.{call-refused, payload-refused, accepted}
+use Rattle.c_stereo.proofs.StereoLaws.{call-refused, place-short, read-told}
 use borrow.Author.Needs.{needs}
 use Rattle.c_stereo.proofs.oarcradler_read_stereo.Statement.{statement}
 use Rattle.c_stereo.proofs.oarcradler_read_stereo.Tie as tie
 
+abbrev given : tie.Start → Call
+given c =
+    let a = c .args in
+    record {
+      state = a .state .now;
+      payload = record { bytes = a .buf .now; start = a .start; end = a .end };
+      answer = a .answer .now;
+    }
+
 returns : tie.Need-returns
 returns c =
-    let entry = c .before .before .before .before .before .before in
-    let a = entry .args in
-    let j = c .before .stereo-call-refusal in
-    call-refused (a .state .now) (a .buf .now) (a .start) (a .end) (a .answer .now) (j .result) (j .ensures) (c .if1 .taken)
+    let j = c .before .stereo-refusal in
+    call-refused (given (c .before .before .before .before .before .before)) (j .result) (j .ensures) (c .if1 .taken)
 
 abbrev start : tie.Else1 → tie.Start
 start c = c .before .before .before .before .before .before
 
 -- past the first test nothing was refused before the first bit
-unrefused : (c : tie.Else1) → let a = start c .args in
-    stereoCallRefusal (a .state .now) (length (a .buf .now)) (a .start) (a .end) (length (a .answer .now)) ≡ 0
+unrefused : (c : tie.Else1) → firstNumber (testsOf (given (start c))) ≡ 0
 unrefused c =
-    let j = c .before .stereo-call-refusal in
+    let j = c .before .stereo-refusal in
     _∙_ {b = j .result} (sym (j .ensures)) (c .if1 .left)
 
 -- so the answer has room, the state is sound, and the range lies in the buffer
@@ -53,41 +63,31 @@ part-read-bytes-start c = omega (arith, passed (c .before .before) .2, passed (c
 part-read-bytes-end : tie.Need-part-read-bytes-end
 part-read-bytes-end c = omega (arith, passed (c .before .before) .2, passed (c .before .before) .3)
 
-slice-write-state : tie.Need-slice-write-state
-slice-write-state c = omega (arith, long (c .before .before .before .before .before .before))
+abbrev tested : tie.After-read-bytes → tie.Else1
+tested c = c .before .before .before .before
+
+-- the reader's answer is the one of the definition
+answer : (c : tie.After-read-bytes) → c .read-bytes .result ≡ stereoReading (given (start (tested c)))
+answer c =
+    c .read-bytes .ensures
+    ∙ ap (λ (st : State). readBytes st (bytesIn (given (start (tested c)) .payload))) (c .before .before .state-at .ensures)
+
+told-requires : tie.Need-told-requires
+told-requires c κs =
+    let read = c .before .before in
+    let t = tested read in
+    (long t, passed t .0, place-short (given (start t)) _ (answer read))
 
 returns-2 : tie.Need-returns-2
 returns-2 c =
-    let read = c .before .before .before in
-    let tested = read .before .before .before .before in
-    let a = tested .before .before .before .before .before .before .args in
-    let r : read .read-bytes .result ≡ stereoReading (a .state .now) (a .buf .now) (a .start) (a .end) = read .read-bytes .ensures
-    ∙ rw (read .before .before .state-at .ensures) in
-    let refused = rw r at (c .before .if2 .taken) in
-    rw r (payload-refused (a .state .now) (a .buf .now) (a .start) (a .end) (a .answer .now) (unrefused tested) refused)
-
-put-state-requires : tie.Need-put-state-requires
-put-state-requires c κs = long (c .before .before .before .before .before .before .before)
-
-put-answer-requires : tie.Need-put-answer-requires
-put-answer-requires c κs = passed (c .before .before .before .before .before .before .before .before .before .before .before) .0
-
-returns-3 : tie.Need-returns-3
-returns-3 c =
-    let put = c .before .before .before .before .before .before in
-    let read = put .before .before .before .before in
-    let tested = read .before .before .before .before in
-    let a = tested .before .before .before .before .before .before .args in
-    let r : read .read-bytes .result ≡ stereoReading (a .state .now) (a .buf .now) (a .start) (a .end) = read .read-bytes .ensures
-    ∙ rw (read .before .before .state-at .ensures) in
-    let ends = accepted (a .state .now) (a .buf .now) (a .start) (a .end) (a .answer .now) (unrefused tested)
-    (rw r at (put .before .before .if2 .left)) in
-    (ends .0, (put .put-state .ensures ∙ rw r (ends .1 .0), c .before .before .put-answer .ensures ∙ rw r (ends .1 .1)))
+    let told = c .before .before .before .before in
+    let read = told .before .before .before in
+    let t = tested read in
+    let e = told .told .ensures in
+    read-told (given (start t)) (unrefused t) _ (answer read) _ _ _ (e .0) (e .1 .0) (e .1 .1)
 
 pub oarcradler-read-stereo-spec : {M : Type 1} → statement M
 oarcradler-read-stereo-spec =
     tie.close
-    (tie.spec (λ c κs. search needs) (λ c. search needs) returns state-at-requires sub-read-bytes
-    part-read-bytes-start part-read-bytes-end (λ c κs. search needs) slice-write-state (λ c. search needs)
-    (λ c. search needs) returns-2 put-state-requires put-answer-requires (λ c. search needs) (λ c. search needs)
-    returns-3)
+    (tie.spec (λ c κs. search needs) (λ c. search needs) returns state-at-requires sub-read-bytes part-read-bytes-start
+    part-read-bytes-end (λ c κs. search needs) told-requires (λ c. search needs) (λ c. search needs) returns-2)

@@ -12,10 +12,11 @@ use Rattle.stereo_writer.specs.declared.Written.{Written}
 use Rattle.bits.specs.Bytes.{over}
 use Rattle.c_layout.specs.StateBytes.{stateBytes, soundBytes, stateAt}
 use Rattle.c_layout.specs.ContentsBytes.{contentsAt}
-use Rattle.c_writer.specs.WriteStereo.{writeCallRefusal, stereoWriting}
+use Rattle.bits.specs.Calls.{firstNumber}
+use Rattle.c_writer.specs.WriteStereo.{Call, writeTests, stereoWriting}
 use Rattle.c_layout.proofs.StateLaws.{sound-long}
 use Rattle.c_writer.proofs.Passed.{write-passed}
-use Rattle.c_writer.proofs.WriteLaws.{call-refused, contents-refused, accepted}
+use Rattle.c_writer.proofs.WriteLaws.{call-refused, written, contents-refused, accepted}
 use borrow.Author.Needs.{needs}
 use Rattle.c_writer.proofs.oarcradler_write_stereo.Statement.{statement}
 use Rattle.c_writer.proofs.oarcradler_write_stereo.Tie as tie
@@ -25,8 +26,8 @@ start c = c .before .before .before .before .before .before .before
 
 -- past the first test nothing was refused before the contents are written
 unrefused : (c : tie.Else1)
-    → let a = start c .args in writeCallRefusal (a .state .now) (length (a .contents .now)) (length (a .answer .now)) ≡ 0
-unrefused c = sym (c .before .write-call-refusal .ensures) ∙ c .if1 .left
+    → let a = start c .args in firstNumber (writeTests (a .state .now) (length (a .contents .now)) (length (a .answer .now))) ≡ 0
+unrefused c = sym (c .before .write-refusal .ensures) ∙ c .if1 .left
 
 -- so the state is sound, and the contents and the answer have their bytes
 passed : (c : tie.Else1)
@@ -37,32 +38,34 @@ passed c = write-passed _ _ _ (unrefused c)
 abbrev tested : tie.After-write → tie.Else1
 tested w = w .before .before .before .before .before
 
+abbrev given : tie.Start → Call
+given c =
+    let a = c .args in
+    record { state = a .state .now; contents = a .contents .now; out = a .out .now; answer = a .answer .now }
+
 -- the writer's answer, and the output
 wrote : (w : tie.After-write)
-    → let a = start (tested w) .args in
-    let answer = stereoWriting (a .state .now) (a .contents .now) (a .out .now) in
-    (w .write .result ≡ answer)
-    × (w .write .last .0 ≡ writtenOver answer (stateAt (a .state .now)) (contentsAt (a .contents .now)) (a .out .now))
+    → (w .write .result ≡ stereoWriting (given (start (tested w)))) × (w .write .last .0 ≡ written (given (start (tested w))))
 wrote w =
     let wanted = w .before .before in
     let a = start (tested w) .args in
-    let st : wanted .before .state-at .result ≡ stateAt (a .state .now) = wanted .before .state-at .ensures in
-    let c : wanted .contents-at .result ≡ contentsAt (a .contents .now) = wanted .contents-at .ensures in
+    let before = stateAt (a .state .now) in
+    let sent = contentsAt (a .contents .now) in
+    let st : wanted .before .state-at .result ≡ before = wanted .before .state-at .ensures in
+    let c : wanted .contents-at .result ≡ sent = wanted .contents-at .ensures in
     let out = a .out .now in
     let r = w .write .ensures .0 ∙ ap₂ (λ (x : State) (y : Contents). writing x y (length out)) st c in
-    let over : (z : Written) → z ≡ stereoWriting (a .state .now) (a .contents .now) out
+    let over : (z : Written) → z ≡ writing before sent (length out)
     → writtenOver z (wanted .before .state-at .result) (wanted .contents-at .result) out
-    ≡ writtenOver (stereoWriting (a .state .now) (a .contents .now) out) (stateAt (a .state .now)) (contentsAt (a .contents .now)) out =
-    λ z e. ap₂ (λ (x : State) (y : Contents). writtenOver z x y out) st c
-    ∙ ap (λ (u : Written). writtenOver u (stateAt (a .state .now)) (contentsAt (a .contents .now)) out) e in
+    ≡ writtenOver (writing before sent (length out)) before sent out =
+    λ z e. ap₂ (λ (x : State) (y : Contents). writtenOver z x y out) st c ∙ ap (λ (u : Written). writtenOver u before sent out) e in
     (r, w .write .ensures .1 ∙ over (w .write .result) r)
 
 returns : tie.Need-returns
 returns c =
     let j = c .before in
-    let a = j .before .before .before .before .before .before .args in
-    call-refused (a .state .now) (a .contents .now) (a .out .now) (a .answer .now) (j .write-call-refusal .result)
-    (j .write-call-refusal .ensures) (c .if1 .taken)
+    call-refused (given (j .before .before .before .before .before .before)) (j .write-refusal .result) (j .write-refusal .ensures)
+    (c .if1 .taken)
 
 state-at-requires : tie.Need-state-at-requires
 state-at-requires c κs = sound-long _ (passed (c .before) .0)
@@ -73,10 +76,8 @@ contents-at-requires c κs = passed (c .before .before) .1
 returns-2 : tie.Need-returns-2
 returns-2 c =
     let w = c .before .before .before .before .before in
-    let a = start (tested w) .args in
     let r = wrote w .0 in
-    let ends = contents-refused (a .state .now) (a .contents .now) (a .out .now) (a .answer .now) (unrefused (tested w))
-    (rw r at (c .before .if2 .taken)) in
+    let ends = contents-refused (given (start (tested w))) (unrefused (tested w)) (rw r at (c .before .if2 .taken)) in
     (ap (λ (z : Written). z .number) r ∙ ends .0, (ends .1 .0, (wrote w .1 ∙ ends .1 .1 .0, ends .1 .1 .1)))
 
 put-state-requires : tie.Need-put-state-requires
@@ -95,8 +96,7 @@ returns-3 c =
     let w = put .before .before .before .before .before .before in
     let a = start (tested w) .args in
     let r = wrote w .0 in
-    let ends = accepted (a .state .now) (a .contents .now) (a .out .now) (a .answer .now) (unrefused (tested w))
-    (rw r at (put .before .before .if2 .left)) in (
+    let ends = accepted (given (start (tested w))) (unrefused (tested w)) (rw r at (put .before .before .if2 .left)) in (
       ends .0,
       (
         put .put-state .ensures ∙ ap (λ (z : Written). over (a .state .now) 0 (stateBytes (z .state))) r ∙ ends .1 .0,

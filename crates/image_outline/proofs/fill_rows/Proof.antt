@@ -16,7 +16,7 @@ use Rattle.image_outline.proofs.fill_rows.Tie as tie
 
 abbrev Inv-loop : tie.InvT-loop
 Inv-loop image count index rows₀ state₀ k₀ rows state k =
-    (k ≤ count) × (state ≡ stateBefore image k) × (length rows ≡ length rows₀) × Put rows₀ 0 (rowsOf image k) (4 * k) rows
+    (k ≤ count) × (state ≡ stateBefore image k) × (length rows ≡ length rows₀) × Put rows₀ 0 (rowsOf image k) (5 * k) rows
 
 abbrev μ-loop : tie.MeasureT-loop
 μ-loop image count index rows₀ state₀ k₀ rows state k = count - k
@@ -40,9 +40,9 @@ loop-again c =
     ∙ rw (p, l .inv .1) (state-more s (a .count) (a .index) (l .k) (pre .2)) in
     let row = rw (p, l .inv .1) at (turn .turn-of .ensures .0) in
     let t = turn .turn-of .result .row in
-    let ys = t .number ∷ t .first ∷ t .second ∷ t .bits ∷ [] in
-    let placed : Put (l .rows) (0 + 4 * l .k) ys 4 (put .put-row .last .0) = rw (zero-add (4 * l .k)) (put .put-row .ensures, refl) in
-    let next = put-next (a .rows .now) 0 (rowsOf s (l .k)) (4 * l .k) ys 4 (l .inv .3) placed (omega arith) in
+    let ys = t .number ∷ t .place ∷ t .first ∷ t .second ∷ t .bits ∷ [] in
+    let placed : Put (l .rows) (0 + 5 * l .k) ys 5 (put .put-row .last .0) = rw (zero-add (5 * l .k)) (put .put-row .ensures, refl) in
+    let next = put-next (a .rows .now) 0 (rowsOf s (l .k)) (5 * l .k) ys 5 (l .inv .3) placed (omega arith) in
     let long = put-length (a .rows .now) 0 _ _ next (omega arith) in
     let more = ap (λ (z : List ℕ). rowsOf s (l .k) ++ z) row ∙ rows-more s (a .count) (a .index) (l .k) (pre .2) in
     let few : l .k + 1 ≤ a .count = omega arith in

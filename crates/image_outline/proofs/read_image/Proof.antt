@@ -40,7 +40,7 @@ returns-2 c =
     no-room (a .image .now) (a .rows .now) (not-5 tested) (rw (c .before .count-of .ensures) at (c .if2 .taken))
 
 -- past the second test the rows fit
-room : (c : tie.Else2) → 4 * countOf (start (c .before .before) .args .image .now) ≤ length (start (c .before .before) .args .rows .now)
+room : (c : tie.Else2) → 5 * countOf (start (c .before .before) .args .image .now) ≤ length (start (c .before .before) .args .rows .now)
 room c = rw (c .before .count-of .ensures) at (c .if2 .left)
 
 returns-3 : tie.Need-returns-3

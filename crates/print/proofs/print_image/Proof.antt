@@ -13,10 +13,10 @@ print-payloads-requires c κs =
     let read = c .before .before .before .before .before .before in
     let a = read .before .before .before .args in
     let outline = read .read-image .ensures .0 in
-    let long : 4096 ≤ length (read .read-image .last .1 .0) = search needs in
+    let long : 5120 ≤ length (read .read-image .last .1 .0) = search needs in
     let zero = rw outline at (c .before .before .before .if1 .left) in
-    let header = outline ∙ outline-header (a .image .now) 4096 zero in (
-      rw outline (outline-few (a .image .now) 4096 zero),
+    let header = outline ∙ outline-header (a .image .now) 5120 zero in (
+      rw outline (outline-few (a .image .now) 5120 zero),
       long,
       sym header ∙ sound-header (read .read-image .result) (c .before .before .before .if1 .left),
     )

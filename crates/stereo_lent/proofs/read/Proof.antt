@@ -40,6 +40,7 @@ use denote.Triple.Walked.{says, Stays, stay-ref, stay-none, stay-none-slice, wal
 use denote.Triple.Walked.{ends-at, walked, walk-meets}
 use denote.Triple.Clauses.{ensured, lasts}
 use denote.Exit.{yes}
+use Rattle.bits.specs.Payload.{rangeIn}
 use Rattle.stereo_reader.specs.Reading.{readFrom}
 use Rattle.stereo.specs.declared.State.{State}
 use Rattle.stereo.proofs.State as S
@@ -109,7 +110,7 @@ module _ {M : Type 1} (𝓤 : URA M) (H : Heap 𝓤) (A : Atoms 𝓤) (W : Given
   Own = ShrSlice (named 1) κ′ u8 .own s (u ∷ [])
 
   abbrev found : Apart
-  found = apartOf (readFrom h (now s) i j)
+  found = apartOf (readFrom h (rangeIn (now s) i j))
 
   abbrev Post : Val → SProp 𝓤
   Post = walkOf 𝓤 H A lent.ended stayed (lent.clauses 𝓤 H A at-mem run) .post (((κ, (κ′, tt)), (q, (q′, tt)), tt, x, at), tt)

@@ -7,7 +7,7 @@ use lib.Dec.{eqb}
 use lib.IntN.{pos}
 use lib.ListN.{length, replicate}
 use borrow.Author.Needs.{needs}
-use Rattle.channel.specs.Promise.{readingOf, linesAfter}
+use Rattle.channel.specs.Promise.{Outputs, readingOf, linesAfter}
 use Rattle.sounding.specs.Sounding.{sounding}
 use Rattle.adts.specs.Frame.{frameHeader, frameStream}
 use Rattle.adts.specs.Promise.{framed}
@@ -25,7 +25,7 @@ returns c =
     let r : read .read-frame .result ≡ framed (frameHeader bytes) (readingOf x) =
     read .read-frame .ensures .0 ∙ rw (lines .no-lines .ensures, front-is bytes) in
     let l : read .read-frame .last .1 .1 .0 ≡ linesAfter x (replicate 1024 (pos 0)) =
-    read .read-frame .ensures .1 .0 ∙ rw (lines .no-lines .ensures, front-is bytes) in
+    ap (λ (o : Outputs). o .lines) (read .read-frame .ensures .1) ∙ rw (lines .no-lines .ensures, front-is bytes) in
     let sound = counted .count-sounding .ensures ∙ ap sounding l ∙ sounding-after x in
     let row = row-is bytes (read .read-frame .result) _ _ _ _ _ r (c .before .before .before .before .before .wide .ensures)
     (c .before .before .before .before .wide2 .ensures) (c .before .before .before .wide3 .ensures) sound (c .step-of .ensures) in

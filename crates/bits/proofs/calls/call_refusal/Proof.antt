@@ -1,4 +1,4 @@
--- Each return shows the tests of `callRefusal` up to the one that refused.
+-- Each return shows the tests up to the one that refused.
 -- Assumes nothing.
 use native.Mathlib.Omega.{arith}
 use borrow.Author.Tests.{le-leb, lt-leb}

@@ -25,7 +25,7 @@ sub-if1 c =
     let read = c .before .before .before in
     let x = entry read .args in
     let e = rw (c .before .stream-ended .given .1) at (read .read-from .ensures) in
-    stream-lawful (x .index) .within (x .s .now) 0 _ _ _ (omega arith) (e .2) .1
+    stream-lawful (x .index) .accepts .within (x .s .now) 0 _ _ _ (omega arith) (e .2) .1
 
 returns-2 : tie.Need-returns-2
 returns-2 c =

@@ -5,7 +5,7 @@ use lib.ListN.{take}
 use Rattle.print_rows.specs.InnerEach.{numbersText}
 use Rattle.print_rows.specs.InnerChannelRows.{bandCount, bandsRow}
 use Rattle.print_rows.proofs.EachLaws.{numbers-short}
-use Rattle.print_rows.proofs.RowLaws.{two-held}
+use Rattle.print_lines.proofs.TextLaws.{two-held}
 use borrow.Author.Needs.{needs}
 use Rattle.print_rows.proofs.channels.put_bands.Statement.{statement}
 use Rattle.print_rows.proofs.channels.put_bands.Tie as tie

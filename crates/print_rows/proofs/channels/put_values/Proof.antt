@@ -3,10 +3,9 @@
 use mathlib.Core.Path.{ap}
 use native.Mathlib.Omega.{arith}
 use Rattle.print_lines.specs.InnerText.{Line, lineOf, ascii}
-use Rattle.print_lines.proofs.TextLaws.{text-most, roomy}
+use Rattle.print_lines.proofs.TextLaws.{text-most, roomy, after}
 use Rattle.print_rows.specs.InnerEach.{valuesText}
 use Rattle.print_rows.specs.InnerChannelRows.{valuesRow}
-use Rattle.print_rows.proofs.RowLaws.{after}
 use borrow.Author.Needs.{needs}
 use Rattle.print_rows.proofs.channels.put_values.Statement.{statement}
 use Rattle.print_rows.proofs.channels.put_values.Tie as tie

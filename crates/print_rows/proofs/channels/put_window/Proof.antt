@@ -5,17 +5,20 @@ use mathlib.Core.List.{[], _∷_}
 use native.Mathlib.Omega.{arith}
 use lib.ListN.{length, take}
 use Rattle.print_lines.specs.InnerText.{ascii, line}
-use Rattle.print_lines.proofs.TextLaws.{form-short}
+use Rattle.print_lines.proofs.TextLaws.{form-short, two-held}
 use Rattle.print_rows.specs.InnerEach.{numbersText}
 use Rattle.print_rows.specs.InnerChannelRows.{windowRow}
 use Rattle.print_rows.proofs.EachLaws.{numbers-short}
-use Rattle.print_rows.proofs.RowLaws.{two-held}
 use borrow.Author.Needs.{needs}
 use Rattle.print_rows.proofs.channels.put_window.Statement.{statement}
 use Rattle.print_rows.proofs.channels.put_window.Tie as tie
 
+-- what is known of the groups, the eighth field of a reading: they are eight
 slice-aggregate-put-bytes : tie.Need-slice-aggregate-put-bytes
-slice-aggregate-put-bytes c = search needs
+slice-aggregate-put-bytes c =
+    let entry = c .before .before .before .before .before .before .before .before .before .before .before .before .before in
+    let groups = entry .good .1 .0 .1 .1 .1 .1 .1 .1 .1 .1 .1 .0 in
+    search (needs, groups)
 
 returns : tie.Need-returns
 unfolding windowRow

@@ -5,11 +5,10 @@ use mathlib.Core.List.{[], _∷_}
 use native.Mathlib.Omega.{arith}
 use lib.ListN.{length, take}
 use Rattle.print_lines.specs.InnerText.{ascii, line}
-use Rattle.print_lines.proofs.TextLaws.{form-short}
+use Rattle.print_lines.proofs.TextLaws.{form-short, two-held}
 use Rattle.print_rows.specs.InnerEach.{numbersText}
 use Rattle.print_rows.specs.InnerStereoRows.{borderCount, frameRow}
 use Rattle.print_rows.proofs.EachLaws.{numbers-short}
-use Rattle.print_rows.proofs.RowLaws.{two-held}
 use borrow.Author.Needs.{needs}
 use Rattle.print_rows.proofs.contents.put_frame.Statement.{statement}
 use Rattle.print_rows.proofs.contents.put_frame.Tie as tie

@@ -4,11 +4,10 @@ use mathlib.Core.List.{[], _∷_}
 use native.Mathlib.Omega.{arith}
 use borrow.Author.Tests.{eq-eqb, ne-eqb}
 use Rattle.print_lines.specs.InnerText.{ascii, line}
-use Rattle.print_lines.proofs.TextLaws.{form-short}
+use Rattle.print_lines.proofs.TextLaws.{form-short, two-held}
 use Rattle.print_rows.specs.InnerFill.{fillText}
 use Rattle.print_rows.specs.InnerStereoRows.{partRow}
 use Rattle.print_rows.proofs.FillLaws.{fill-short}
-use Rattle.print_rows.proofs.RowLaws.{two-held}
 use borrow.Author.Needs.{needs}
 use Rattle.print_rows.proofs.contents.put_part.Statement.{statement}
 use Rattle.print_rows.proofs.contents.put_part.Tie as tie

@@ -5,7 +5,7 @@ use native.Mathlib.Omega.{arith}
 use lib.ListN.{length}
 use Rattle.print_rows.specs.InnerEach.{indicesText}
 use Rattle.print_rows.proofs.EachLaws.{indices-short}
-use Rattle.print_rows.proofs.RowLaws.{two-held}
+use Rattle.print_lines.proofs.TextLaws.{two-held}
 use borrow.Author.Needs.{needs}
 use Rattle.print_rows.proofs.envelopes.put_row.Statement.{statement}
 use Rattle.print_rows.proofs.envelopes.put_row.Tie as tie

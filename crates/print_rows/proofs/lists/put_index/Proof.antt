@@ -7,10 +7,9 @@ use mir.Syntax.{w8, w16}
 use borrow.Author.Needs.{needs}
 use Rattle.bits.proofs.Signed.{wide-fits, widened}
 use Rattle.print_lines.specs.InnerText.{lineOf, ascii}
-use Rattle.print_lines.proofs.TextLaws.{one-byte}
+use Rattle.print_lines.proofs.TextLaws.{one-byte, after}
 use Rattle.print_rows.specs.InnerSigned.{signedText}
 use Rattle.print_rows.specs.InnerEach.{nextIndex}
-use Rattle.print_rows.proofs.RowLaws.{after}
 use Rattle.print_rows.proofs.lists.put_index.Statement.{statement}
 use Rattle.print_rows.proofs.lists.put_index.Tie as tie
 

@@ -3,9 +3,8 @@
 use mathlib.Core.Path.{sym, _∙_}
 use borrow.Author.Needs.{needs}
 use Rattle.print_lines.specs.InnerText.{lineOf, ascii, numberText}
-use Rattle.print_lines.proofs.TextLaws.{one-byte}
+use Rattle.print_lines.proofs.TextLaws.{one-byte, after}
 use Rattle.print_rows.specs.InnerEach.{nextNumber}
-use Rattle.print_rows.proofs.RowLaws.{after}
 use Rattle.print_rows.proofs.lists.put_next.Statement.{statement}
 use Rattle.print_rows.proofs.lists.put_next.Tie as tie
 

@@ -11,11 +11,10 @@ use mir.Syntax.{w16}
 use mir.ValLaws.{toZ-ofZ}
 use borrow.Author.Needs.{needs}
 use Rattle.print_lines.specs.InnerText.{Line, lineOf, withText, line}
-use Rattle.print_lines.proofs.TextLaws.{text-most}
+use Rattle.print_lines.proofs.TextLaws.{text-most, after}
 use Rattle.print_rows.specs.InnerSigned.{signedText}
 use Rattle.print_rows.specs.InnerEach.{valueText}
 use Rattle.print_rows.proofs.EachLaws.{value-few}
-use Rattle.print_rows.proofs.RowLaws.{after}
 use Rattle.print_rows.proofs.lists.put_value.Statement.{statement}
 use Rattle.print_rows.proofs.lists.put_value.Tie as tie
 

@@ -6,11 +6,10 @@ use native.Mathlib.Omega.{arith}
 use borrow.Author.Tests.{eq-eqb, ne-eqb}
 use lib.ListN.{length}
 use Rattle.print_lines.specs.InnerText.{formText}
-use Rattle.print_lines.proofs.TextLaws.{form-short}
+use Rattle.print_lines.proofs.TextLaws.{form-short, two-held}
 use Rattle.print_rows.specs.InnerEach.{indicesText}
 use Rattle.print_rows.specs.InnerStateRows.{recordRow}
 use Rattle.print_rows.proofs.EachLaws.{indices-short}
-use Rattle.print_rows.proofs.RowLaws.{two-held}
 use borrow.Author.Needs.{needs}
 use Rattle.print_rows.proofs.records.put_record.Statement.{statement}
 use Rattle.print_rows.proofs.records.put_record.Tie as tie

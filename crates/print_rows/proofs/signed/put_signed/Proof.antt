@@ -6,7 +6,7 @@ use mir.ValLaws.{toZ-ofZ}
 use borrow.Author.Needs.{needs}
 use Rattle.print_lines.specs.InnerText.{lineOf, numberText}
 use Rattle.print_rows.specs.InnerSigned.{signText, signedText}
-use Rattle.print_rows.proofs.RowLaws.{after}
+use Rattle.print_lines.proofs.TextLaws.{after}
 use Rattle.print_rows.proofs.signed.put_signed.Statement.{statement}
 use Rattle.print_rows.proofs.signed.put_signed.Tie as tie
 

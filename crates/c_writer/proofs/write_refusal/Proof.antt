@@ -1,10 +1,10 @@
--- Each return shows the tests of `writeCallRefusal` up to the one that refused.
+-- Each return shows the tests of the definition up to the one that refused.
 -- Assumes nothing.
 use mathlib.Core.Path.{sym, _∙_}
 use borrow.Author.Tests.{le-leb, lt-leb, not-true, not-false}
 use borrow.Author.Needs.{needs}
-use Rattle.c_writer.proofs.write_call_refusal.Statement.{statement}
-use Rattle.c_writer.proofs.write_call_refusal.Tie as tie
+use Rattle.c_writer.proofs.write_refusal.Statement.{statement}
+use Rattle.c_writer.proofs.write_refusal.Tie as tie
 
 returns : tie.Need-returns
 returns c = rw (lt-leb _ _ (c .if1 .taken))
@@ -31,7 +31,7 @@ returns-4 c =
       le-leb _ _ (c .if3 .left),
     )
 
-pub write-call-refusal-spec : {M : Type 1} → statement M
-write-call-refusal-spec =
+pub write-refusal-spec : {M : Type 1} → statement M
+write-refusal-spec =
     tie.close
     (tie.spec returns (λ c κs. search needs) returns-2 returns-3 returns-4)

@@ -1,8 +1,8 @@
 -- The three tests are the definition's.
 use native.Mathlib.Omega.{arith}
 use borrow.Author.Tests.{le-leb, lt-leb}
-use Rattle.adts.proofs.outputs_fit.Statement.{statement}
-use Rattle.adts.proofs.outputs_fit.Tie as tie
+use Rattle.channel.proofs.outputs_fit.Statement.{statement}
+use Rattle.channel.proofs.outputs_fit.Tie as tie
 
 returns : tie.Need-returns
 returns c = rw (lt-leb _ _ (c .if1 .taken))
