@@ -242,7 +242,7 @@ module _ (k : Kept) (w : Keeps k) where
           let not-0 : r .number ≡ 0 → ⊥ = λ y. true-false _ (eq-eqb (r .number) 0 y) z in
           let left : r .state ≡ lost st = ap (λ (x : Reading). x .state) (bytes-touching st (bytesIn p) not-0 .0) in
           let small = answered-small (r .number) (bytes-answered st (bytesIn p)) in
-          let told : eqb (returned (r .number) (r .place)) 0 ≡ false = ne-eqb (returned (r .number) (r .place)) 0 (λ y. not-0 (omega arith)) in (
+          let told = ne-eqb (returned (r .number) (r .place)) 0 (λ y. not-0 (omega arith)) in (
             rw (
               comes-back,
               told,
