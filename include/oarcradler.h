@@ -72,7 +72,7 @@ typedef char oarcradler_no_length_is_cut[sizeof(uint64_t) == 8 && sizeof(size_t)
 
 /* Bytes of stack that are enough for a call, on every processor that there is an archive for, whatever the input. */
 #define OARCRADLER_STACK_WRITE_STEREO 16384
-#define OARCRADLER_STACK_READ_STEREO 14848
+#define OARCRADLER_STACK_READ_STEREO 15360
 #define OARCRADLER_STACK_READ_FRAME 13312
 #define OARCRADLER_STACK_UNWRAP_FRAME 13312
 #define OARCRADLER_STACK_WRAP_STREAM 13312
