@@ -1,23 +1,26 @@
 -- What comes back from each function for C has the number that the call gives, 0 or of the table, and its place.
 -- Assumes nothing.
-use mathlib.Core.Path.{_≡_, _∙_, ap}
-use mathlib.Core.Bool.{Bool, _&&_}
+use mathlib.Core.Path.{_≡_, refl, _∙_, ap}
+use mathlib.Core.List.{[], _∷_}
+use mathlib.Core.Bool.{Bool, true, false, _&&_}
 use lib.Dec.{leb}
 use lib.ListN.{length}
 use Rattle.bits.specs.Reader.{Answer}
-use Rattle.bits.specs.Calls.{firstNumber, returned, returnedOf, numberIn, placeIn}
+use Rattle.bits.specs.Calls.{_or_, firstRefusal, firstNumber, returned, returnedOf, numberIn, placeIn}
 use Rattle.bits.specs.Packed.{bytesFor}
-use Rattle.bits.specs.Payload.{bytesIn}
+use Rattle.bits.specs.Payload.{isThere, bytesIn}
 use Rattle.bits.proofs.CallLaws.{first-passed, number-kept, place-kept}
 use Rattle.channel.specs.Stream.{Stream}
 use Rattle.channel.specs.Promise.{haveRoom, readingOf}
 use Rattle.adts.specs.Promise.{headerAt, streamAt, fitted}
-use Rattle.c_layout.specs.StateBytes.{stateAt}
+use Rattle.stereo_reader.specs.declared.Reading.{Reading}
+use Rattle.c_layout.specs.StateBytes.{stateAt, soundBytes}
 use Rattle.c_channel.specs.ReadChannel as channelC
 use Rattle.c_stereo.specs.ReadStereo as stereoC
 use Rattle.c_adts.specs.ReadFrame as frameC
 use Rattle.c_adts.specs.UnwrapFrame as unwrapC
 use Rattle.c_adts.specs.WrapStream as wrapC
+use Rattle.promises.specs.Refusals.{isAnswered}
 use Rattle.promises.proofs.Refusals.{bytes-answered, channel-answered, answered-small}
 use Rattle.promises.proofs.FrameNumbers.{frame-answered, unwrap-answered, wrap-call-refusals, answered}
 use Rattle.promises.proofs.Places.{answer-kept}
@@ -38,6 +41,23 @@ stereo-returned c e =
     let came = first-passed (stereoC.testsOf c) (λ n. n) (returned (r .number) (r .place)) tt e in
     let small = answered-small (r .number) (bytes-answered (stateAt (c .state)) (bytesIn (c .payload))) in
     (ap numberIn came ∙ number-kept (r .number) (r .place) small, ap placeIn came ∙ place-kept (r .number) (r .place) small)
+
+-- and its number is 0 or of the table, whatever is judged
+pub stereo-call-answered : (c : stereoC.Call) → isAnswered (numberIn (stereoC.stereoReturned c)) ≡ true
+unfolding stereoC.stereoReturned
+stereo-call-answered c = by-tests (isThere (c .payload)) (leb 582 (length (c .answer))) (soundBytes (c .state))
+  where
+    r : Reading
+    r = stereoC.stereoReading c
+
+    by-tests : (a b d : Bool)
+        → isAnswered (numberIn (firstRefusal (a or 1 ∷ b or 2 ∷ d or 4 ∷ []) (λ n. n) (returned (r .number) (r .place)))) ≡ true
+    by-tests true true true =
+        let told = bytes-answered (stateAt (c .state)) (bytesIn (c .payload)) in
+        rw (number-kept (r .number) (r .place) (answered-small (r .number) told)) told
+    by-tests true true false = refl
+    by-tests true false d = refl
+    by-tests false b d = refl
 
 -- reading, unwrapping and wrapping a frame
 module _ (c : frameC.Call) where
