@@ -13,6 +13,7 @@ pub mod Holds
 pub mod Spelt
 pub mod Back
 pub mod PutLaws
+pub mod PutParts
 pub mod PackedLaws
 pub mod Exact
 pub mod PaddedLaws

@@ -8,8 +8,7 @@ use native.Mathlib.Omega.{arith}
 use native.Mathlib.Decide.{decLt, ℕ-discrete}
 use native.Mathlib.Nat.{add-mul, mod-lt, pow-suc, add-zero, add-assoc}
 use lib.Arith.{digits-lt}
-use native.Mathlib.Numerals.{add-one}
-use lib.Pow.{pow-pos, pow-mono, shr-lt, pow-add, shr-shr, high, low, mod-mod-pow, split as pow-split, field as pow-field}
+use lib.Pow.{pow-pos, shr-lt, pow-add, shr-shr, high, low, mod-mod-pow, split as pow-split, field as pow-field}
 use lib.ListN.{length, getD, length-set, List·getD-append}
 use lib.Seq.{set-append-left, getD-set-same, getD-set-other, set-out}
 use Rattle.bits.specs.Bits.{bitsFrom, bitAt}
@@ -18,7 +17,7 @@ use Rattle.bits.specs.Pieces.{Piece, total}
 use Rattle.bits.proofs.Holds.{Holds}
 use Rattle.bits.specs.Packed.{replaced, setBit, put, putAll}
 
-replaced-is : (x k b : ℕ) → replaced x k b ≡ (x / 2 ^ k / 2 * 2 + b) * 2 ^ k + x % 2 ^ k
+pub replaced-is : (x k b : ℕ) → replaced x k b ≡ (x / 2 ^ k / 2 * 2 + b) * 2 ^ k + x % 2 ^ k
 unfolding replaced
 replaced-is x k b =
     let q = x / 2 ^ k in
@@ -151,25 +150,6 @@ replaced-lt x k b h l g =
     let d : (x / 2 ^ k / 2 * 2 + b) * 2 ^ k + x % 2 ^ k < 2 ^ (7 - k) * 2 * 2 ^ k = digits-lt u (mod-lt x (pow-pos k)) in
     let w : 2 ^ (7 - k) * 2 * 2 ^ k ≡ 256 = ap (λ (z : ℕ). z * 2 ^ k) v ∙ sym (pow-add 2 (8 - k) k) ∙ ap (λ (z : ℕ). 2 ^ z) (sym e) in
     omega (arith, replaced-is x k b)
-
--- the first bits of a number, and one more
-pub put-more : (s : List ℕ) (at v n k : ℕ) → k < n
-    → setBit (put s at (v / 2 ^ (n - k)) k) (at + k) (v / 2 ^ (n - (k + 1)) % 2) ≡ put s at (v / 2 ^ (n - (k + 1))) (k + 1)
-unfolding put
-put-more s at v n k h =
-    let e : n - k ≡ (n - suc k) + 1 = omega arith in
-    rw (add-one k, e, ← shr-shr v (n - suc k) 1)
-
-pub bit-weight : (b k : ℕ) → b < 2 → k < 8 → b * 2 ^ k ≤ 128
-bit-weight zero k h l = omega arith
-bit-weight (suc zero) k h l = let e : 2 ^ k ≤ 2 ^ 7 = pow-mono {i = k} {j = 7} (omega arith) in omega arith
-bit-weight (suc (suc b)) k h l = absurd (omega arith)
-
-pub taken-le : (x k : ℕ) → x / 2 ^ k % 2 * 2 ^ k ≤ x
-taken-le x k =
-    let e : x / 2 ^ k ≡ x / 2 ^ k / 2 * 2 + x / 2 ^ k % 2 = omega arith in
-    let f : x / 2 ^ k * 2 ^ k ≡ (x / 2 ^ k / 2 * 2 + x / 2 ^ k % 2) * 2 ^ k = ap (λ (z : ℕ). z * 2 ^ k) e in
-    omega (arith, pow-split x k, add-mul (x / 2 ^ k / 2 * 2) (x / 2 ^ k % 2) (2 ^ k))
 
 -- more bytes behind are as they were
 pub set-bit-append : (s t : List ℕ) (i b : ℕ) → i < 8 * length s → setBit (s ++ t) i b ≡ setBit s i b ++ t

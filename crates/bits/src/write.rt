@@ -1,26 +1,31 @@
 // Pieces of bits, put one after another into a scratch array of zeros, whose first bytes are then copied out.
 ghost use mathlib.Core.Path.{_≡_};
 ghost use mathlib.Core.List.{_++_};
-ghost use Prim.Native.Nat.{_+_, _*_, _<_, _≤_, _^_};
+ghost use Prim.Native.Nat.{_+_, _-_, _*_, _%_, _<_, _≤_, _^_, min};
 ghost use lib.ListN.{length, take, drop};
-ghost use Rattle.bits.specs.Packed.{replaced, setBit, put};
+ghost use Rattle.bits.specs.Packed.{put};
+ghost use Rattle.bits.specs.InnerReplaced.{replacedBits};
 
-// A byte with the bit of weight 2^k replaced.
-fn replaced_bit(x: u8, k: usize, b: u8) -> u8
-    requires { ⌜ (k < 8) × (b < 2) ⌝ }
-    ensures { λ r. ⌜ r ≡ replaced x k b ⌝ }
+// A byte whose m bits from weight 2^k up are the low m bits of a number.
+fn replaced_bits(x: u8, k: usize, m: usize, v: u32) -> u8
+    requires { ⌜ k + m ≤ 8 ⌝ }
+    ensures { λ r. ⌜ r ≡ replacedBits x k m v ⌝ }
 {
-    let m = 1u64 << k;
-    let w = x as u64;
-    ((w - (w >> k) % 2 * m) + b as u64 * m) as u8
+    let unit = 1u32 << k;
+    let range = 1u32 << m;
+    let w = x as u32;
+    (((w >> (k + m)) * range + v % range) * unit + w % unit) as u8
 }
 
-// The bit at a place is replaced.
-fn set_bit(out: &mut [u8], i: usize, b: u8)
-    requires { ⌜ (i < 8 * length (now out)) × (b < 2) ⌝ }
-    ensures { λ _. ⌜ now (out .exit) ≡ setBit (now (out .entry)) i b ⌝ }
+// How many of the bits that are left to be put at a place stand in the byte of the first.
+fn bits_in_byte(place: usize, left: usize) -> usize
+    ensures { λ r. ⌜ r ≡ min (8 - place % 8) left ⌝ }
 {
-    out[i / 8] = replaced_bit(out[i / 8], 7 - i % 8, b);
+    let room = 8 - place % 8;
+    if room < left {
+        return room;
+    }
+    left
 }
 
 // The low n bits of a number are put at a place.
@@ -28,11 +33,14 @@ pub fn put_bits(out: &mut [u8], at: usize, v: u32, n: usize)
     requires { ⌜ (at + n ≤ 8 * length (now out)) × (at + n < 2 ^ 64) × (n ≤ 20) ⌝ }
     ensures { λ _. ⌜ now (out .exit) ≡ put (now (out .entry)) at v n ⌝ }
 {
-    let mut k = 0;
-    while k < n {
-        let b = (v >> (n - (k + 1))) % 2;
-        set_bit(out, at + k, b as u8);
-        k += 1;
+    let mut place = at;
+    let mut left = n;
+    while left > 0 {
+        let m = bits_in_byte(place, left);
+        let i = place / 8;
+        out[i] = replaced_bits(out[i], 8 - (place % 8 + m), m, v >> (left - m));
+        place += m;
+        left -= m;
     }
 }
 
