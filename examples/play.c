@@ -45,12 +45,14 @@ static int play_stereo(uint32_t k, size_t size, uint32_t start, uint32_t end, ui
 /* Every payload of an image whose header is sound, up to a line that is not printed. Whether all were. */
 static int play_payloads(size_t size, uint32_t count, uint32_t index)
 {
-    uint8_t state[OARCRADLER_SIZE_STATE], part[OARCRADLER_SIZE_PART];
+    static uint8_t parts[OARCRADLER_MOST_PARTS];
+    uint8_t state[OARCRADLER_SIZE_STATE];
     if (oarcradler_fresh_state(state, sizeof state) != OARCRADLER_DONE)
         return 0;
+    if (oarcradler_find_parts(image, size, parts, sizeof parts) != OARCRADLER_DONE)
+        return 0;
     for (uint32_t k = 0; k < count; k++) {
-        if (oarcradler_find_part(image, size, k, part, sizeof part) != OARCRADLER_DONE)
-            return 0;
+        const uint8_t *part = parts + OARCRADLER_SIZE_PART * k;
         uint32_t start = oarcradler_word(part + OARCRADLER_AT_PART_START), end = oarcradler_word(part + OARCRADLER_AT_PART_END);
         if (!(k % 2 == 0 ? play_channel(k, size, start, end, index) : play_stereo(k, size, start, end, state)))
             return 0;

@@ -33,14 +33,16 @@ static void play_stereo(uint32_t k, size_t size, const uint8_t *part, uint8_t *s
 /* Every stereo payload of an image, or why there is none. */
 static void play_post(size_t size, uint8_t *state)
 {
-    uint8_t answer[OARCRADLER_SIZE_HEADER];
-    uint32_t number = oarcradler_number(oarcradler_read_header(image, size, answer, sizeof answer));
-    uint32_t count = number == OARCRADLER_DONE ? oarcradler_word(answer + OARCRADLER_AT_HEADER_COUNT) : 0;
+    static uint8_t parts[OARCRADLER_MOST_PARTS];
+    uint8_t header[OARCRADLER_SIZE_HEADER];
+    uint32_t number = oarcradler_number(oarcradler_read_header(image, size, header, sizeof header));
+    if (number == OARCRADLER_DONE)
+        number = oarcradler_number(oarcradler_find_parts(image, size, parts, sizeof parts));
+    uint32_t count = number == OARCRADLER_DONE ? oarcradler_word(header + OARCRADLER_AT_HEADER_COUNT) : 0;
     if (number != OARCRADLER_DONE)
         printf("image refused %u, %s: %s\n", (unsigned)number, oarcradler_name(number), oarcradler_sentence(number));
     for (uint32_t k = 1; k < count; k += 2)
-        if (oarcradler_find_part(image, size, k, answer, sizeof answer) == OARCRADLER_DONE)
-            play_stereo(k, size, answer, state);
+        play_stereo(k, size, parts + OARCRADLER_SIZE_PART * k, state);
 }
 
 int main(void)

@@ -23,9 +23,9 @@
 extern "C" {
 #endif
 
-#define OARCRADLER_VERSION "3.0.0"
+#define OARCRADLER_VERSION "3.1.0"
 #define OARCRADLER_VERSION_MAJOR 3
-#define OARCRADLER_VERSION_MINOR 0
+#define OARCRADLER_VERSION_MINOR 1
 #define OARCRADLER_VERSION_PATCH 0
 
 /* The compiler warns where what comes back is dropped. */
@@ -51,7 +51,7 @@ typedef char oarcradler_no_length_is_cut[sizeof(uint64_t) == 8 && sizeof(size_t)
 #define OARCRADLER_SIZE_FACTORS 120  /* bytes of scale factors */
 #define OARCRADLER_SIZE_BOOKS 120    /* bytes of books */
 #define OARCRADLER_SIZE_HEADER 8     /* bytes of an image header's answer */
-#define OARCRADLER_SIZE_PART 8       /* bytes of a part's answer */
+#define OARCRADLER_SIZE_PART 8       /* bytes of a part's answer, and of each part where all are answered */
 #define OARCRADLER_SIZE_INDICES 34   /* indices of a record, and of a row */
 #define OARCRADLER_SIZE_RECORD 35    /* bytes of a record of the state: its mode, its indices */
 #define OARCRADLER_SIZE_ROW 35       /* bytes of a row of an envelope: its time flag, its indices */
@@ -62,6 +62,7 @@ typedef char oarcradler_no_length_is_cut[sizeof(uint64_t) == 8 && sizeof(size_t)
 /* The most there is. */
 #define OARCRADLER_MOST_IMAGE 65535  /* bytes of a tag image */
 #define OARCRADLER_MOST_PAYLOADS 1024 /* payloads of a tag image */
+#define OARCRADLER_MOST_PARTS 8192   /* bytes that are enough for the parts of every tag image */
 #define OARCRADLER_MOST_ENVELOPES 4  /* envelopes of a stereo payload */
 #define OARCRADLER_MOST_GROUPS 8     /* groups of windows of a channel stream */
 #define OARCRADLER_MOST_WRITTEN 1024 /* bytes that are enough for every stereo payload that is written */
@@ -81,6 +82,7 @@ typedef char oarcradler_no_length_is_cut[sizeof(uint64_t) == 8 && sizeof(size_t)
 #define OARCRADLER_STACK_FRESH_STATE 256
 #define OARCRADLER_STACK_READ_HEADER 256
 #define OARCRADLER_STACK_FIND_PART 256
+#define OARCRADLER_STACK_FIND_PARTS 256
 #define OARCRADLER_STACK_VERSION 256
 
 /* The numbers that come back: 0, or a refusal's. They are compared with oarcradler_number(returned), never with what was returned. */
@@ -158,7 +160,8 @@ typedef char oarcradler_no_length_is_cut[sizeof(uint64_t) == 8 && sizeof(size_t)
 #define OARCRADLER_AT_CHANNEL_GROUP_COUNT 8
 #define OARCRADLER_AT_CHANNEL_GROUPS 9 /* the windows of each of OARCRADLER_MOST_GROUPS groups, 0 past the last */
 
-/* Where the words of an image header's answer and of a part's answer stand. */
+/* Where the words of an image header's answer and of a part's answer stand. Of all parts, that of payload k stands at
+ * OARCRADLER_SIZE_PART * k. */
 #define OARCRADLER_AT_HEADER_COUNT 0 /* the payload count */
 #define OARCRADLER_AT_HEADER_INDEX 4 /* the sampling index */
 #define OARCRADLER_AT_PART_START 0   /* the payload's first byte in the image */
@@ -206,10 +209,10 @@ const char *oarcradler_sentence(uint32_t returned);
 
 /* The archive's version: 10,000 times the first number, 100 times the second, and the third. The first two stand in its name, so that a
  * program which calls oarcradler_version links with no archive of another version than this header's. */
-uint32_t oarcradler_version_3_0(void);
+uint32_t oarcradler_version_3_1(void);
 static inline uint32_t oarcradler_version(void)
 {
-    return oarcradler_version_3_0();
+    return oarcradler_version_3_1();
 }
 
 /* The state before any payload is written to a lent state. 2, or 0. */
@@ -250,6 +253,12 @@ OARCRADLER_NODISCARD uint32_t oarcradler_read_header(
 /* The payload k of a tag image: where it starts and ends is written as two words. 2, 5, 3, 1 where there is no such payload, or 0. */
 OARCRADLER_NODISCARD uint32_t oarcradler_find_part(
     const uint8_t *image, uint64_t image_size, uint32_t k,
+    uint8_t *answer, uint64_t answer_size);
+
+/* All payloads of a tag image, whose header is judged once: where each starts and ends is written as two words, OARCRADLER_SIZE_PART bytes
+ * for each payload. 5, then 2 where the answer has no room for them, 3, or 0. */
+OARCRADLER_NODISCARD uint32_t oarcradler_find_parts(
+    const uint8_t *image, uint64_t image_size,
     uint8_t *answer, uint64_t answer_size);
 
 /* The ADTS frame that starts at a byte of a file: lines, scale factors, books and the answer are written. 1 where the start is past the

@@ -157,6 +157,19 @@ uint32_t call_find_part(struct image_call *call, uint32_t k)
     return returned;
 }
 
+uint32_t call_find_parts(struct image_call *call)
+{
+    static const uint32_t numbers[] = { 2, 3, 5, 0 };
+    const uint8_t *image = bytes_of(&call->image);
+    remember(&call->image), remember(&call->answer);
+    uint32_t returned = oarcradler_find_parts(image, call->image.size, bytes_of(&call->answer), call->answer.size);
+    size_t written = returned == 0 ? OARCRADLER_SIZE_PART * (256 * (size_t)image[0] + image[1]) : 0;
+    check_placeless("find_parts", returned, numbers);
+    expect(same(&call->image), "find_parts: the image was changed");
+    expect(written <= call->answer.size && same_but(&call->answer, 0, written), "find_parts: a byte was changed that is not the answer's");
+    return returned;
+}
+
 /* The numbers of a frame, in the order of their size. */
 static const uint32_t frame_numbers[] = { 1, 2, 10, 12, 13, 20, 21, 22, 23, 24, 25, 26, 50, 51, 52, 53, 0 };
 

@@ -51,6 +51,8 @@ uint32_t call_read_channel(struct channel_call *call, uint64_t start, uint64_t e
 uint32_t call_read_header(struct image_call *call);
 /* The payload k of a lent image is found. */
 uint32_t call_find_part(struct image_call *call, uint32_t k);
+/* All payloads of a lent image are found. */
+uint32_t call_find_parts(struct image_call *call);
 /* The frame that starts at a byte of a lent file is read. */
 uint32_t call_read_frame(struct frame_call *call, size_t start);
 /* The stream of the frame that starts at a byte of a lent file is cut out. */

@@ -12,6 +12,7 @@ struct face {
     uint32_t (*missing)(uint8_t *, uint64_t);
     uint32_t (*header)(const uint8_t *, uint64_t, uint8_t *, uint64_t);
     uint32_t (*part)(const uint8_t *, uint64_t, uint32_t, uint8_t *, uint64_t);
+    uint32_t (*parts)(const uint8_t *, uint64_t, uint8_t *, uint64_t);
     uint32_t (*write)(uint8_t *, uint64_t, const uint8_t *, uint64_t, uint8_t *, uint64_t, uint8_t *, uint64_t);
     uint32_t (*stereo)(uint8_t *, uint64_t, const uint8_t *, uint64_t, uint64_t, uint64_t, uint8_t *, uint64_t);
     uint32_t (*channel)(const uint8_t *, uint64_t, uint64_t, uint64_t, uint32_t, int16_t *, uint64_t, struct oarcradler_factors *, uint64_t,
@@ -23,8 +24,8 @@ struct face {
 };
 
 static const struct face face = { oarcradler_version, oarcradler_number, oarcradler_place, oarcradler_fresh_state,
-    oarcradler_report_missing, oarcradler_read_header, oarcradler_find_part, oarcradler_write_stereo, oarcradler_read_stereo,
-    oarcradler_read_channel, oarcradler_read_frame, oarcradler_unwrap_frame, oarcradler_wrap_stream };
+    oarcradler_report_missing, oarcradler_read_header, oarcradler_find_part, oarcradler_find_parts, oarcradler_write_stereo,
+    oarcradler_read_stereo, oarcradler_read_channel, oarcradler_read_frame, oarcradler_unwrap_frame, oarcradler_wrap_stream };
 
 /* Every number, and places up to the last, are taken out of what is returned as they were put there; a number with no place is returned as
  * it is. */
@@ -52,6 +53,7 @@ void test_face(void)
     expect(1 + OARCRADLER_SIZE_INDICES == OARCRADLER_SIZE_ROW && OARCRADLER_SIZE_ROW == OARCRADLER_SIZE_RECORD, "a row is no record");
     expect(OARCRADLER_AT_STEREO_BORDERS + OARCRADLER_MOST_ENVELOPES == OARCRADLER_AT_STEREO_EXTENSION, "borders are not the envelopes'");
     expect(OARCRADLER_AT_CHANNEL_GROUPS + OARCRADLER_MOST_GROUPS == OARCRADLER_SIZE_CHANNEL, "the groups do not end the channel answer");
+    expect(OARCRADLER_MOST_PAYLOADS * OARCRADLER_SIZE_PART == OARCRADLER_MOST_PARTS, "the most parts have other bytes than their parts");
     expect(OARCRADLER_SIZE_CHANNEL == OARCRADLER_AT_FRAME_LENGTH, "a frame's answer does not begin as a channel answer");
     expect(OARCRADLER_AT_FRAME_INDEX + 1 == OARCRADLER_SIZE_FRAME, "the index does not end a frame's answer");
     expect(sizeof(struct oarcradler_factors) == OARCRADLER_SIZE_FACTORS, "scale factors have other bytes around them");

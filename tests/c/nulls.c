@@ -9,6 +9,9 @@ static struct oarcradler_factors factors;
 static struct oarcradler_books books;
 static const uint8_t silence[] = { 100, 0, 0 };
 
+/* Images of two payloads with no bytes, and of none. */
+static const uint8_t two[] = { 0, 2, 0, 3, 0, 10, 0, 10, 0, 10 }, none[] = { 0, 0, 0, 3, 0, 6 };
+
 /* What a call with a null pointer returned: a number, whose place is 0. */
 static void expect_null(uint32_t said, uint32_t wanted, const char *what)
 {
@@ -64,6 +67,9 @@ static void test_file_nulls(void)
     expect_null(oarcradler_read_header(silence, sizeof silence, 0, 0), 2, "read_header with no answer");
     expect_null(oarcradler_find_part(0, 0, 0, answer, sizeof answer), 5, "find_part of no image");
     expect_null(oarcradler_find_part(silence, sizeof silence, 0, 0, 0), 2, "find_part with no answer");
+    expect_null(oarcradler_find_parts(0, 0, answer, sizeof answer), 5, "find_parts of no image");
+    expect_null(oarcradler_find_parts(two, sizeof two, 0, 0), 2, "find_parts with no answer");
+    expect_null(oarcradler_find_parts(none, sizeof none, 0, 0), 0, "find_parts of an image with no payloads, with no answer");
     expect_null(oarcradler_read_frame(0, 0, 0, lines, OARCRADLER_SIZE_LINES, &factors, sizeof factors, &books, sizeof books, answer,
                     sizeof answer), 10, "read_frame of no file");
     expect_null(oarcradler_unwrap_frame(0, 0, 0, out, sizeof out, answer, sizeof answer), 10, "unwrap_frame of no file");

@@ -5,7 +5,7 @@
 
 #include "oarcradler.h"
 
-enum { STACK = 20480, LIMIT = 16384, ENTRIES = 11, LEAST_CALLS = 40000, OWN = 256 };
+enum { STACK = 20480, LIMIT = 16384, ENTRIES = 12, LEAST_CALLS = 40000, OWN = 256 };
 
 static const uint64_t paint = 0xa5a5a5a5a5a5a5a5u;
 
@@ -17,7 +17,8 @@ static const struct {
     { "oarcradler_write_stereo", OARCRADLER_STACK_WRITE_STEREO }, { "oarcradler_read_channel", OARCRADLER_STACK_READ_CHANNEL },
     { "oarcradler_read_header", OARCRADLER_STACK_READ_HEADER }, { "oarcradler_find_part", OARCRADLER_STACK_FIND_PART },
     { "oarcradler_read_frame", OARCRADLER_STACK_READ_FRAME }, { "oarcradler_unwrap_frame", OARCRADLER_STACK_UNWRAP_FRAME },
-    { "oarcradler_wrap_stream", OARCRADLER_STACK_WRAP_STREAM }, { "oarcradler_version", OARCRADLER_STACK_VERSION } };
+    { "oarcradler_wrap_stream", OARCRADLER_STACK_WRAP_STREAM }, { "oarcradler_find_parts", OARCRADLER_STACK_FIND_PARTS },
+    { "oarcradler_version", OARCRADLER_STACK_VERSION } };
 static uint8_t *frame;
 static size_t deepest[ENTRIES];
 static unsigned long called[ENTRIES], measured;
@@ -26,6 +27,7 @@ static unsigned long called[ENTRIES], measured;
 static uint8_t image[70000], state[OARCRADLER_SIZE_STATE], answer[OARCRADLER_SIZE_STEREO], out[OARCRADLER_MOST_WRITTEN], words[OARCRADLER_SIZE_HEADER];
 static struct oarcradler_factors factors;
 static struct oarcradler_books books;
+static uint8_t parts[OARCRADLER_MOST_PARTS];
 static uint8_t adts_frame[OARCRADLER_MOST_WRAPPED], stream[OARCRADLER_MOST_STREAM], length[OARCRADLER_SIZE_WRAPPED];
 static int16_t lines[OARCRADLER_SIZE_LINES];
 static const uint8_t *file;
@@ -57,6 +59,7 @@ static __attribute__((noinline)) void call_entry(void)
     case 9:
         returned = oarcradler_wrap_stream(image, size, start, end, index, adts_frame, sizeof adts_frame, length, sizeof length);
         break;
+    case 10: returned = oarcradler_find_parts(image, size, parts, sizeof parts); break;
     default: returned = oarcradler_version();
     }
 }
@@ -143,6 +146,7 @@ static void measure_image(void)
 {
     measure(0);
     measure(10);
+    measure(11);
     if (measure(5) != 0)
         return;
     uint32_t count = oarcradler_word(words);

@@ -6,9 +6,9 @@ use mathlib.Core.Path.{_≡_}
 abbrev pub numbered : ℕ → ℕ → ℕ → ℕ
 numbered first second third = 10000 * first + 100 * second + third
 
--- 3.0.0
+-- 3.1.0
 unfoldable pub version : ℕ
-version = numbered 3 0 0
+version = numbered 3 1 0
 
 -- everything that a call gives
 abbrev pub VersionPromise : ℕ → Type 0

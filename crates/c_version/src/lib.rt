@@ -5,8 +5,8 @@ ghost use Rattle.c_version.specs.Version.{VersionPromise};
 
 // The version as one number: 10,000 times the first, 100 times the second, and the third.
 #[no_mangle]
-pub extern "C" fn oarcradler_version_3_0() -> u32
+pub extern "C" fn oarcradler_version_3_1() -> u32
     ensures { λ r. ⌜ VersionPromise r ⌝ }
 {
-    30000
+    30100
 }

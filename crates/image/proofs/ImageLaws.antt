@@ -1,7 +1,7 @@
 -- What a sound image's header says, fact by fact; and that each payload lies in the image.
 -- Assumes nothing.
 use Prim.Native.Nat.{ℕ, zero, suc, _+_, _*_, _%_, _-_, _<_, _≤_}
-use mathlib.Core.Path.{_≡_, refl, sym, _∙_, ap, subst}
+use mathlib.Core.Path.{_≡_, refl, subst}
 use mathlib.Core.Bool.{Bool, true, false, _&&_}
 use mathlib.Core.List.{List}
 use native.Mathlib.Omega.{arith}
@@ -10,8 +10,7 @@ use lib.ListN.{length}
 use borrow.Author.Tests.{leb-true, eqb-true}
 use Rattle.bits.proofs.Bools.{and-both}
 use Rattle.bits.specs.Reader.{pick}
-use Rattle.image.specs.declared.Header.{Header}
-use Rattle.image.specs.Image.{countOf, indexOf, offsetOf, rising, soundImage, refusedHeader, headerOf}
+use Rattle.image.specs.Image.{countOf, indexOf, offsetOf, rising, soundImage, refusedHeader, headerOf, headerFor}
 use Rattle.bits.specs.Sampling.{knownIndex}
 
 pub record Sound (s : List ℕ) : Type 0 where
@@ -134,8 +133,17 @@ header-not-5 s = go (soundImage s)
     go true f = refl
     go false f = absurd (f refl)
 
--- what is known where a header was accepted, and k is below its count
-pub header-known : (s : List ℕ) (k : ℕ) {h : Header} → h ≡ headerOf s → h .number ≡ 0 → k < h .count → Sound s × (k < countOf s)
-header-known s k {h} e z l =
-    let w = header-sound s (sym (ap (λ (x : Header). x .number) e) ∙ z) in
-    (w .0, omega (arith, w .1, ap (λ (x : Header). x .count) e))
+-- a header that is accepted for an output is the image's, with few payloads, and the output has room for them
+pub header-for : (each : ℕ) (s : List ℕ) (room : ℕ) → headerFor each s room .number ≡ 0
+    → (headerFor each s room ≡ headerOf s) × (headerOf s .number ≡ 0) × (headerOf s .count ≤ 1024) × (each * headerOf s .count ≤ room)
+unfolding headerFor
+header-for each s room = go (soundImage s) (leb (each * countOf s) room) refl
+  where
+    go : (a b : Bool) → leb (each * countOf s) room ≡ b → pick a (pick b (headerOf s) (refusedHeader 2)) (refusedHeader 5) .number ≡ 0
+        → (pick a (pick b (headerOf s) (refusedHeader 2)) (refusedHeader 5) ≡ headerOf s) × (headerOf s .number ≡ 0)
+        × (headerOf s .count ≤ 1024) × (each * headerOf s .count ≤ room)
+    go true true q e =
+        let known = header-sound s e in
+        (refl, e, omega (arith, known .0 .few, known .1), rw (known .1) (leb-true (each * countOf s) room q))
+    go true false q e = absurd (omega arith)
+    go false b q e = absurd (omega arith)

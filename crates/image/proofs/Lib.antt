@@ -1,2 +1,3 @@
 pub mod RisingLaws
 pub mod ImageLaws
+pub mod PartLaws

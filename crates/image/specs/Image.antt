@@ -46,6 +46,11 @@ headerOf s =
     firstRefusal (soundImage s or 5 ∷ knownIndex (indexOf s) or 3 ∷ []) refusedHeader
     (record { number = 0; count = countOf s; index = indexOf s })
 
+-- the same for a lent output of some room, of which each payload takes so much: the image, and whether its payloads fit, are judged before
+-- the rest of the header, which is the index
+unfoldable pub headerFor : ℕ → List ℕ → ℕ → Header
+headerFor each s room = firstRefusal (soundImage s or 5 ∷ leb (each * countOf s) room or 2 ∷ []) refusedHeader (headerOf s)
+
 abbrev pub refusedPart : ℕ → Part
 refusedPart n = record { number = n; start = 0; end = 0 }
 

@@ -2,7 +2,7 @@
 ghost use mathlib.Core.Path.{_≡_};
 ghost use Prim.Native.Nat.{_+_, _*_, _<_, _≤_};
 ghost use lib.ListN.{length};
-ghost use Rattle.image.specs.Image.{pairAt, countOf, rising, soundImage, HeaderPromise, PartPromise};
+ghost use Rattle.image.specs.Image.{pairAt, rising, soundImage, headerFor, partOf, HeaderPromise, PartPromise};
 
 // What an image's header says: a refusal's number, or 0 with the payload count and the sampling index.
 pub struct Header {
@@ -30,14 +30,6 @@ fn pair_at(image: &[u8], i: usize) -> usize
     ensures { λ r. ⌜ (r ≡ pairAt (now (image .entry)) i) × (r ≤ 65535) ⌝ }
 {
     wide(image[i]) * 256 + wide(image[i + 1])
-}
-
-// How many payloads an image has.
-pub fn count_of(image: &[u8]) -> usize
-    requires { ⌜ 1 < length (now image) ⌝ }
-    ensures { λ r. ⌜ r ≡ countOf (now (image .entry)) ⌝ }
-{
-    pair_at(image, 0)
 }
 
 // Whether none of the n offsets after the first is before the one that it follows.
@@ -111,6 +103,37 @@ pub fn read_header(image: &[u8]) -> Header
     }
 }
 
+// The header of an image, for a lent output with some room, of which each payload takes so much: 5, then 2, then 3.
+pub fn header_for(image: &[u8], each: usize, room: usize) -> Header
+    requires { ⌜ each ≤ 8 ⌝ }
+    ensures { λ r. ⌜ r ≡ headerFor each (now (image .entry)) room ⌝ }
+{
+    let header = read_header(image);
+    if header.number == 5 {
+        return header;
+    }
+    if room < each * pair_at(image, 0) {
+        return Header {
+            number: 2,
+            count: 0,
+            index: 0,
+        };
+    }
+    header
+}
+
+// The part of an image that a payload is which it has: its header is not judged again. The part lies in the image.
+pub fn known_part(image: &[u8], k: usize) -> Part
+    requires { ⌜ partOf (now image) k .number ≡ 0 ⌝ }
+    ensures { λ r. ⌜ PartPromise (now (image .entry)) k r ⌝ }
+{
+    Part {
+        number: 0,
+        start: pair_at(image, 2 * k + 4),
+        end: pair_at(image, 2 * k + 6),
+    }
+}
+
 // The part of an image that its k-th payload is; 1 where there is none. It lies in the image.
 pub fn part_of(image: &[u8], k: usize) -> Part
     ensures { λ r. ⌜ PartPromise (now (image .entry)) k r ⌝ }
@@ -131,9 +154,5 @@ pub fn part_of(image: &[u8], k: usize) -> Part
             end: 0,
         };
     }
-    Part {
-        number: 0,
-        start: pair_at(image, 2 * k + 4),
-        end: pair_at(image, 2 * k + 6),
-    }
+    known_part(image, k)
 }

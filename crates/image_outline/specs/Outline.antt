@@ -1,20 +1,19 @@
 -- The outline of an image: of each payload, in order, five numbers. An accepted channel stream has 0, 0, its gain, how many
 -- of its lines are not 0, and its bits; an accepted stereo payload has 0, 0, its envelopes, 0, and its bits; a refused
 -- payload its number, its place, and zeros.
-use Prim.Native.Nat.{ℕ, zero, suc, _+_, _*_}
+use Prim.Native.Nat.{ℕ, zero, suc}
 use mathlib.Core.Path.{_≡_}
 use mathlib.Core.List.{List, [], _∷_, _++_}
-use lib.Dec.{eqb, leb}
+use lib.Dec.{eqb}
 use lib.ListN.{length}
 use Rattle.bits.specs.Reader.{Answer, got, refused, pick}
 use Rattle.channel.specs.Stream.{Stream}
 use Rattle.sounding.specs.Sounding.{sounding}
 use Rattle.stereo_reader.specs.declared.Reading.{Reading}
 use Rattle.stereo.specs.declared.State.{State}
-use Rattle.image.specs.Image.{countOf, soundImage, refusedHeader, headerOf, bytesOf}
+use Rattle.image.specs.Image.{headerOf, headerFor, bytesOf}
 use Rattle.image.specs.declared.Header.{Header}
 use Rattle.bits.specs.Bytes.{over}
-use Rattle.bits.specs.Calls.{_or_, firstRefusal}
 use Rattle.image_outline.specs.Answers.{isEven, channelIn, stereoIn, stateBefore}
 
 -- the numbers of a channel stream
@@ -38,9 +37,9 @@ unfoldable pub rowsOf : List ℕ → ℕ → List ℕ
 rowsOf s zero = []
 rowsOf s (suc k) = rowsOf s k ++ rowOf s k
 
--- the image, and whether the rows fit, are judged before the rest of the header, which is the index
-unfoldable pub outlineOf : List ℕ → ℕ → Header
-outlineOf s room = firstRefusal (soundImage s or 5 ∷ leb (5 * countOf s) room or 2 ∷ []) refusedHeader (headerOf s)
+-- the image, and whether the rows fit, are judged before the index
+abbrev pub outlineOf : List ℕ → ℕ → Header
+outlineOf s room = headerFor 5 s room
 
 -- the lent rows afterwards: those of each payload from the front on, or what they held
 unfoldable pub rowsAfter : List ℕ → List ℕ → List ℕ

@@ -110,7 +110,7 @@ fn fill_rows(image: &[u8], count: usize, index: u8, rows: &mut [usize])
     let mut state = states::fresh();
     let mut k = 0;
     while k < count {
-        let part = image::part_of(image, k);
+        let part = image::known_part(image, k);
         let start = part.start;
         let end = part.end;
         let turn = turn_of(&image[start..end], k, index, state);
@@ -124,17 +124,7 @@ fn fill_rows(image: &[u8], count: usize, index: u8, rows: &mut [usize])
 pub fn read_image(image: &[u8], rows: &mut [usize]) -> Header
     ensures { λ r. ⌜ OutlinePromise (now (image .entry)) (now (rows .entry)) r (now (rows .exit)) ⌝ }
 {
-    let header = image::read_header(image);
-    if header.number == 5 {
-        return header;
-    }
-    if rows.len() < 5 * image::count_of(image) {
-        return Header {
-            number: 2,
-            count: 0,
-            index: 0,
-        };
-    }
+    let header = image::header_for(image, 5, rows.len());
     if header.number != 0 {
         return header;
     }

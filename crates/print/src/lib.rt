@@ -25,7 +25,7 @@ fn print_details(ok: bool, image: &[u8], k: usize, index: u8, state: State) -> P
     requires { ⌜ partOf (now image) k .number ≡ 0 ⌝ }
     ensures { λ r. ⌜ r .state ≡ stateFrom state k (bytesOf (now (image .entry)) k) ⌝ }
 {
-    let part = image::part_of(image, k);
+    let part = image::known_part(image, k);
     let start = part.start;
     let end = part.end;
     let bytes = &image[start..end];

@@ -51,6 +51,8 @@ pub use Rattle.promises.proofs.FrameTrips.{wrap-read, wrap-unwrap, unwr
 -- demand 2, for C: what a program takes out of the bytes of a channel answer and of a frame's answer is what the call answers
 pub use Rattle.promises.proofs.AnswersBack.{channel-back}
 pub use Rattle.promises.proofs.FrameBack.{framed-back}
+-- and all parts of an image at once are its parts one by one
+pub use Rattle.promises.proofs.PartsBack.{parts-back}
 -- and what it takes out of what comes back is the number, 0 or of the table, and the place: none is lost
 pub use Rattle.bits.proofs.CallLaws.{number-kept, place-kept}
 pub use Rattle.promises.proofs.Returned.{channel-returned, stereo-returned, frame-returned, unwrap-returned, wrap-returned}

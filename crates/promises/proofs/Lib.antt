@@ -12,6 +12,7 @@ pub mod Unique
 pub mod UniqueCalls
 pub mod FitLaws
 pub mod AnswersBack
+pub mod PartsBack
 pub mod FrameBack
 pub mod OverBytes
 pub mod CallRuns

@@ -35,14 +35,14 @@ use Rattle.bits.specs.Packed.{bytesFor}
 use Rattle.stereo_laws.proofs.PayloadNumbers.{payloadRefusals, whole-own}
 use Rattle.image.specs.declared.Header.{Header}
 use Rattle.image.specs.declared.Part.{Part}
-use Rattle.image.specs.Image.{countOf, indexOf, soundImage, headerOf, partOf}
+use Rattle.image.specs.Image.{countOf, indexOf, soundImage, headerOf, headerFor, partOf}
 use Rattle.image_outline.specs.Outline.{outlineOf}
 use Rattle.c_layout.specs.StateBytes.{stateAt, soundBytes}
 use Rattle.c_layout.specs.ContentsBytes.{contentsAt}
 use Rattle.c_channel.specs.ReadChannel as channelC
 use Rattle.c_stereo.specs.StateCalls.{freshNumber, missingNumber}
 use Rattle.c_writer.specs.WriteStereo as writeC
-use Rattle.c_image.specs.ImageCalls.{imageNumber, partNumber}
+use Rattle.c_image.specs.ImageCalls.{imageNumber, partNumber, partsNumber}
 use Rattle.promises.specs.Refusals.{streamRefusals, refusals, isRefusal, isAnswered}
 use Rattle.promises.proofs.ChannelNumbers.{stream-numbers}
 
@@ -212,11 +212,15 @@ part-answered s k =
     picked (λ (p : Part). p .number) (eqb (headerOf s .number) 0) _ _
     (picked (λ (p : Part). p .number) (ltb k (headerOf s .count)) _ _ refl refl) (header-answered s)
 
-pub outline-answered : (s : List ℕ) (room : ℕ) → isAnswered (outlineOf s room .number) ≡ true
-unfolding outlineOf
-outline-answered s room =
+-- and for a lent output: of an outline, and of all parts for C
+pub header-for-answered : (each : ℕ) (s : List ℕ) (room : ℕ) → isAnswered (headerFor each s room .number) ≡ true
+unfolding headerFor
+header-for-answered each s room =
     picked (λ (h : Header). h .number) (soundImage s) _ _
-    (picked (λ (h : Header). h .number) (leb (5 * countOf s) room) _ _ (header-answered s) refl) refl
+    (picked (λ (h : Header). h .number) (leb (each * countOf s) room) _ _ (header-answered s) refl) refl
+
+pub outline-answered : (s : List ℕ) (room : ℕ) → isAnswered (outlineOf s room .number) ≡ true
+outline-answered = header-for-answered 5
 
 -- of the functions for C: what comes back has a number of the table, and its place
 answer-number : (x : Answer Stream) → ((n p : ℕ) → x ≡ refused n p → isRefusal n ≡ true) → isAnswered (readingOf x .number) ≡ true
@@ -256,3 +260,6 @@ image-answered image room = picked self (leb 8 room) _ _ (header-answered image)
 pub find-answered : (image : List ℕ) (k room : ℕ) → isAnswered (partNumber image k room) ≡ true
 unfolding partNumber
 find-answered image k room = picked self (leb 8 room) _ _ (part-answered image k) refl
+
+pub find-all-answered : (image : List ℕ) (room : ℕ) → isAnswered (partsNumber image room) ≡ true
+find-all-answered = header-for-answered 8

@@ -8,7 +8,7 @@ use Rattle.image.specs.declared.Header.{Header}
 use Rattle.channel.specs.declared.Reading.{Reading}
 use Rattle.channel.specs.Promise.{Outputs, Call, ReadChannelPromise}
 use Rattle.c_channel.specs.ReadChannel as channelC
-use Rattle.c_image.specs.ImageCalls.{ReadHeaderPromise, FindPartPromise}
+use Rattle.c_image.specs.ImageCalls.{ReadHeaderPromise, FindPartPromise, FindPartsPromise}
 use Rattle.c_stereo.specs.StateCalls.{FreshStatePromise, ReportMissingPromise}
 use Rattle.c_stereo.specs.ReadStereo as stereoC
 use Rattle.c_writer.specs.WriteStereo as writeC
@@ -38,6 +38,9 @@ module _ (image answer : List ℕ) (r r′ : ℕ) (after after′ : List ℕ) wh
   pub one-image-part : (k : ℕ) → FindPartPromise image k answer r after → FindPartPromise image k answer r′ after′
       → (r ≡ r′) × (after ≡ after′)
   one-image-part k = one-call _ _ r r′ after after′
+
+  pub one-image-parts : FindPartsPromise image answer r after → FindPartsPromise image answer r′ after′ → (r ≡ r′) × (after ≡ after′)
+  one-image-parts = one-call _ _ r r′ after after′
 
 -- the stereo reader: what comes back, the state and the answer
 pub one-stereo : (c : stereoC.Call) (r r′ : ℕ) (s s′ a a′ : List ℕ) → stereoC.ReadStereoPromise c r s a

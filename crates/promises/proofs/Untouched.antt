@@ -43,7 +43,7 @@ use Rattle.bits.specs.Lists.{oneOf}
 use Rattle.c_layout.specs.StateBytes.{stateAt, soundBytes}
 use Rattle.c_layout.specs.ContentsBytes.{contentsAt}
 use Rattle.c_writer.specs.WriteStereo as writeC
-use Rattle.c_image.specs.ImageCalls.{imageNumber, imageAnswerAfter, partNumber, partAnswerAfter}
+use Rattle.c_image.specs.ImageCalls.{imageNumber, imageAnswerAfter, partNumber, partAnswerAfter, partsNumber, partsAnswerAfter}
 use Rattle.image_outline.specs.Outline.{outlineOf, rowsAfter}
 use Rattle.c_channel.specs.ReadChannel.{channelAnswerAfter}
 use Rattle.promises.proofs.Refusals.{bytes-answered, answered-small}
@@ -230,3 +230,7 @@ module _ (image answer : List ℕ) where
   pub part-untouched : (k : ℕ) → partNumber image k (length answer) ≢ 0 → partAnswerAfter image k answer ≡ answer
   unfolding partAnswerAfter
   part-untouched k h = unanswered _ h _ answer
+
+  pub parts-untouched : partsNumber image (length answer) ≢ 0 → partsAnswerAfter image answer ≡ answer
+  unfolding partsAnswerAfter
+  parts-untouched h = unanswered _ h _ answer

@@ -8,9 +8,10 @@ use native.Mathlib.Omega.{arith}
 use borrow.Author.Needs.{needs}
 use lib.ListN.{length}
 use Rattle.bits.proofs.OverLaws.{Put, put-none, put-next, put-as, put-length}
+use Rattle.image.specs.declared.Part.{Part}
 use Rattle.image_outline.specs.Answers.{stateBefore}
 use Rattle.image_outline.specs.Outline.{rowsOf}
-use Rattle.image_outline.proofs.OutlineLaws.{part-there, rows-more, state-more}
+use Rattle.image_outline.proofs.OutlineLaws.{header-there, rows-more, state-more}
 use Rattle.image_outline.proofs.fill_rows.Statement.{statement}
 use Rattle.image_outline.proofs.fill_rows.Tie as tie
 
@@ -25,6 +26,14 @@ loop-holds : tie.Need-loop-holds Inv-loop μ-loop
 unfolding stateBefore rowsOf
 loop-holds c = (omega arith, c .fresh .ensures, refl, put-none (c .before .before .before .args .rows .now) 0)
 
+known-part-requires : tie.Need-known-part-requires Inv-loop μ-loop
+known-part-requires c κs =
+    let entry = c .before .before .before .before .before in
+    let a = entry .args in
+    let l = c .before .loop in
+    let there = header-there (a .image .now) (a .count) (a .index) (l .k) (entry .pre .2) (omega arith) in
+    ap (λ (p : Part). p .number) there
+
 loop-again : tie.Need-loop-again Inv-loop μ-loop
 loop-again c =
     let put = c .before .before .before in
@@ -33,8 +42,8 @@ loop-again c =
     let l = part .before .before .loop in
     let a = part .before .before .before .before .before .before .args in
     let pre = part .before .before .before .before .before .before .pre in
-    let there = part-there (a .image .now) (a .count) (a .index) (l .k) (pre .2) (omega arith) in
-    let p = part .part-of .ensures .0 ∙ there in
+    let there = header-there (a .image .now) (a .count) (a .index) (l .k) (pre .2) (omega arith) in
+    let p = part .known-part .ensures .0 ∙ there in
     let s = a .image .now in
     let state : turn .turn-of .result .state ≡ stateBefore s (l .k + 1) = turn .turn-of .ensures .1
     ∙ rw (p, l .inv .1) (state-more s (a .count) (a .index) (l .k) (pre .2)) in
@@ -57,6 +66,6 @@ returns c =
 pub fill-rows-spec : {M : Type 1} → statement M
 fill-rows-spec =
     tie.close
-    (tie.spec Inv-loop μ-loop (λ c κs. search needs) loop-holds (λ c κs. search needs) (λ c. search needs)
+    (tie.spec Inv-loop μ-loop (λ c κs. search needs) loop-holds known-part-requires (λ c. search needs)
     (λ c. search needs) (λ c. search needs) (λ c κs. search needs) (λ c. search needs) (λ c κs. search needs)
     (λ c. search needs) (λ c. search needs) loop-again (λ c. search needs) returns)

@@ -4,7 +4,7 @@ use Prim.Native.Nat.{_%_}
 use mathlib.Core.Path.{_∙_}
 use borrow.Author.Tests.{eq-eqb, ne-eqb}
 use Rattle.image_outline.specs.Answers.{stateFrom}
-use Rattle.image_outline.proofs.OutlineLaws.{part-is}
+use Rattle.image.proofs.PartLaws.{part-is}
 use borrow.Author.Needs.{needs}
 use Rattle.print.proofs.print_details.Statement.{statement}
 use Rattle.print.proofs.print_details.Tie as tie
@@ -19,7 +19,7 @@ returns-2 c =
     let part = c .before .before .before in
     let entry = part .before .before in
     let a = entry .args in
-    let place = part .part-of .ensures .0 ∙ part-is (a .image .now) (a .k) (entry .pre) in
+    let place = part .known-part .ensures .0 ∙ part-is (a .image .now) (a .k) (entry .pre) in
     rw place at (c .print-stereo .ensures) ∙ rw (ne-eqb (a .k % 2) 0 (c .before .if1 .left))
 
 pub print-details-spec : {M : Type 1} → statement M

@@ -3,7 +3,8 @@
 use Prim.Native.Nat.{_≤_}
 use mathlib.Core.Path.{sym, _∙_}
 use lib.ListN.{length}
-use Rattle.image_outline.proofs.OutlineLaws.{sound-header, outline-header, outline-few}
+use Rattle.image.proofs.ImageLaws.{header-for}
+use Rattle.image_outline.proofs.OutlineLaws.{sound-header}
 use borrow.Author.Needs.{needs}
 use Rattle.print.proofs.print_image.Statement.{statement}
 use Rattle.print.proofs.print_image.Tie as tie
@@ -15,8 +16,9 @@ print-payloads-requires c κs =
     let outline = read .read-image .ensures .0 in
     let long : 5120 ≤ length (read .read-image .last .1 .0) = search needs in
     let zero = rw outline at (c .before .before .before .if1 .left) in
-    let header = outline ∙ outline-header (a .image .now) 5120 zero in (
-      rw outline (outline-few (a .image .now) 5120 zero),
+    let known = header-for 5 (a .image .now) 5120 zero in
+    let header = outline ∙ known .0 in (
+      rw header (known .2),
       long,
       sym header ∙ sound-header (read .read-image .result) (c .before .before .before .if1 .left),
     )

@@ -4,7 +4,7 @@ use Prim.Native.Nat.{_-_, _≤_}
 use mathlib.Core.Path.{_≡_, _∙_, ap}
 use native.Mathlib.Omega.{arith}
 use Rattle.image.specs.declared.Part.{Part}
-use Rattle.image_outline.proofs.OutlineLaws.{part-there}
+use Rattle.image_outline.proofs.OutlineLaws.{header-there}
 use Rattle.print.specs.InnerStates.{printedFrom}
 use Rattle.print.proofs.StateLaws.{state-first, state-next}
 use borrow.Author.Needs.{needs}
@@ -28,7 +28,7 @@ print-payload-requires c κs =
     let a = start c .args in
     let pre = start c .pre in
     let l = c .before .loop in
-    let there = part-there (a .image .now) (a .count) (a .index) (l .k) (pre .2) (omega arith) in
+    let there = header-there (a .image .now) (a .count) (a .index) (l .k) (pre .2) (omega arith) in
     (omega arith, pre .1, ap (λ (p : Part). p .number) there, l .inv .1)
 
 loop-again : tie.Need-loop-again Inv-loop μ-loop
