@@ -2,10 +2,10 @@
 -- Assumes nothing.
 use Prim.Native.Nat.{ℕ, suc, _+_, _≤_, _<_}
 use mathlib.Core.Path.{_≡_, refl, sym, ap, _∙_}
-use mathlib.Core.List.{List, [], _∷_, _++_, append-assoc, append-nil}
+use mathlib.Core.List.{List, [], _∷_, _++_, append-assoc}
 use native.Mathlib.Omega.{arith}
 use native.Mathlib.Numerals.{add-one}
-use lib.ListN.{length, take, drop, set, getD, replicate, length-append}
+use lib.ListN.{length, take, drop, set, getD, length-append}
 use lib.Seq.{paste, paste-zero, paste-suc, length-paste, take-all, take-at, drop-append-add, drop-drop, length-take-le, set-split}
 use lib.Seq.{append-snoc}
 use Rattle.bits.specs.Bytes.{over}
@@ -46,10 +46,6 @@ paste-front s xs i z h k =
 pub over-front : {A : Type 0} (s xs : List A) (n : ℕ) → length xs ≡ n → over s 0 xs ≡ xs ++ drop n s
 unfolding over
 over-front s xs n e = let q : 0 + n ≡ n = omega arith in rw (e, q)
-
--- 34 bytes after the first of 35
-pub filled : (b : ℕ) (ys : List ℕ) → length ys ≡ 34 → paste (replicate 35 b) 1 ys 34 ≡ b ∷ ys
-filled b ys e = ap (λ (zs : List ℕ). b ∷ (zs ++ [])) (take-all 34 ys (omega arith)) ∙ ap (λ (zs : List ℕ). b ∷ zs) (append-nil ys)
 
 -- n bytes were put over s at a place, and t is what stands there now
 abbrev pub Put : List ℕ → ℕ → List ℕ → ℕ → List ℕ → Type 0

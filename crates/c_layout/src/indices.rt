@@ -7,7 +7,6 @@ ghost use mir.Syntax.{w8};
 ghost use Rattle.bits.specs.Bytes.{over};
 ghost use Rattle.c_layout.specs.Indices.{indicesAt, numbered};
 use bits::bytes::byte_of;
-use bits::bytes::put;
 
 // An index as a byte of two's complement.
 fn index_byte(x: i8) -> u8
@@ -45,24 +44,15 @@ pub fn indices_at(s: &[u8], at: usize) -> [i8; 34]
     out
 }
 
-// A number and 34 indices as bytes.
-fn numbered_bytes(n: u32, indices: [i8; 34]) -> [u8; 35]
-    ensures { λ r. ⌜ r ≡ numbered n indices ⌝ }
-{
-    let mut out = [byte_of(n); 35];
-    let mut i = 0;
-    while i < 34 {
-        out[1 + i] = index_byte(indices[i]);
-        i += 1;
-    }
-    out
-}
-
 // A number and 34 indices are put at a place.
 pub fn put_numbered(out: &mut [u8], at: usize, n: u32, indices: [i8; 34])
     requires { ⌜ at + 35 ≤ length (now out) ⌝ }
     ensures { λ _. ⌜ (now (out .exit) ≡ over (now (out .entry)) at (numbered n indices)) × (length (numbered n indices) ≡ 35) ⌝ }
 {
-    let all = numbered_bytes(n, indices);
-    put(out, at, &all);
+    out[at] = byte_of(n);
+    let mut i = 0;
+    while i < 34 {
+        out[at + 1 + i] = index_byte(indices[i]);
+        i += 1;
+    }
 }
