@@ -13,10 +13,10 @@ typedef uint32_t read_stereo(uint8_t *state, uint64_t state_size, const uint8_t 
 typedef uint32_t write_stereo(uint8_t *state, uint64_t state_size, const uint8_t *contents, uint64_t contents_size, uint8_t *out,
     uint64_t out_size, uint8_t *answer, uint64_t answer_size);
 
-/* Each word of a list is read where it stands, in a payload that ends at a bit: the sum of entries and lengths. The list has count numbers,
- * two a word: its place, a bit, and its table: 0 the scale factor book, 1 to 11 the books, 12 to 21 those of stereo, as in
+/* Each word of a list is read where it stands, in a payload that ends at a bit: the sum of entries and of the places after the words, modulo
+ * 2^24, a place modulo 2^16. The list has count numbers, two a word: its place, a bit, and its table: 0 the scale factor book, 1 to 11 the books, 12 to 21 those of stereo, as in
  * tables/words.tsv. */
-typedef uint32_t read_words(const uint8_t *bytes, uint64_t size, uint64_t end, const uint32_t *words, uint64_t count);
+typedef uint32_t read_words(const uint8_t *bytes, uint64_t size, uint32_t end, const uint32_t *words, uint64_t count);
 
 /* One that is timed: its calls; NULL where it has none. */
 struct candidate {

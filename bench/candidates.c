@@ -3,7 +3,7 @@
 
 #include <stddef.h>
 
-read_words walk_words;
+read_words walk_words, oarcradler_bench_scan, oarcradler_bench_lookup;
 read_channel walk_read_channel;
 read_stereo walk_read_stereo;
 
@@ -14,10 +14,11 @@ write_stereo before_oarcradler_write_stereo;
 #endif
 
 const struct candidate candidates[] = {
-    { "library", NULL, oarcradler_read_channel, oarcradler_read_stereo, oarcradler_write_stereo },
+    { "library", oarcradler_bench_lookup, oarcradler_read_channel, oarcradler_read_stereo, oarcradler_write_stereo },
 #ifdef BEFORE
     { "before", NULL, before_oarcradler_read_channel, before_oarcradler_read_stereo, before_oarcradler_write_stereo },
 #endif
+    { "scan", oarcradler_bench_scan, NULL, NULL, NULL },
     { "walk", walk_words, walk_read_channel, walk_read_stereo, NULL },
 };
 const unsigned candidate_count = sizeof candidates / sizeof candidates[0], library = 0;
@@ -41,5 +42,5 @@ uint32_t call_writing(write_stereo *writing, const struct payload *payload, uint
 
 uint32_t call_words(read_words *words, const struct list *list)
 {
-    return words(list->bytes, list->size, 8 * (uint64_t)list->size, list->words, list->count);
+    return words(list->bytes, list->size, 8 * list->size, list->words, list->count);
 }

@@ -72,12 +72,12 @@ typedef char oarcradler_no_length_is_cut[sizeof(uint64_t) == 8 && sizeof(size_t)
 #define OARCRADLER_MOST_PLACE 65528  /* the last bit at which anything is refused, from the payload's or frame's first */
 
 /* Bytes of stack that are enough for a call, on every processor that there is an archive for, whatever the input. */
-#define OARCRADLER_STACK_WRITE_STEREO 16384
-#define OARCRADLER_STACK_READ_STEREO 15360
-#define OARCRADLER_STACK_READ_FRAME 13312
-#define OARCRADLER_STACK_UNWRAP_FRAME 13312
-#define OARCRADLER_STACK_WRAP_STREAM 13312
-#define OARCRADLER_STACK_READ_CHANNEL 13312
+#define OARCRADLER_STACK_WRITE_STEREO 11776
+#define OARCRADLER_STACK_READ_STEREO 6912
+#define OARCRADLER_STACK_READ_FRAME 10496
+#define OARCRADLER_STACK_UNWRAP_FRAME 10496
+#define OARCRADLER_STACK_WRAP_STREAM 10496
+#define OARCRADLER_STACK_READ_CHANNEL 10496
 #define OARCRADLER_STACK_REPORT_MISSING 512
 #define OARCRADLER_STACK_FRESH_STATE 256
 #define OARCRADLER_STACK_READ_HEADER 256

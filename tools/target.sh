@@ -13,6 +13,11 @@ archive_of() {
     esac
 }
 
+# bench_archive_of PROCESSOR: its archive of the functions that the bench alone calls.
+bench_archive_of() {
+    echo "$(dirname "$(archive_of "$1")")/libbench_words.a"
+}
+
 # say WORDS: a line on standard error.
 say() {
     printf '%s\n' "$me: $*" >&2

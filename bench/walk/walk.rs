@@ -119,19 +119,19 @@ pub unsafe extern "C" fn walk_read_stereo(
 }
 
 /// Each word of a list, pairs of its place and its table, is read where it stands, in a payload that ends at a bit: the sum of entries and
-/// lengths.
+/// of the places after the words, modulo 2^24, a place modulo 2^16.
 ///
 /// # Safety
 /// Each pointer leads to as many elements as the size after it says.
 #[no_mangle]
-pub unsafe extern "C" fn walk_words(bytes: *const u8, size: u64, end: u64, words: *const u32, count: u64) -> u32 {
+pub unsafe extern "C" fn walk_words(bytes: *const u8, size: u64, end: u32, words: *const u32, count: u64) -> u32 {
     let mut b = Bits::new(from_raw_parts(bytes, size as usize), trees(), Nobody);
     b.end = end as usize;
     let mut sum = 0;
     for word in from_raw_parts(words, count as usize).chunks_exact(2) {
         b.at = word[0] as usize;
         if let Ok(entry) = b.word(word[1] as usize) {
-            sum += entry + b.at - word[0] as usize;
+            sum = (sum + entry + b.at % 65536) % 16777216;
         }
     }
     sum as u32

@@ -5,7 +5,7 @@
 
 #include "oarcradler.h"
 
-enum { STACK = 20480, LIMIT = 16384, ENTRIES = 12, LEAST_CALLS = 40000, OWN = 256 };
+enum { STACK = 20480, LIMIT = 12288, ENTRIES = 12, LEAST_CALLS = 40000, OWN = 256 };
 
 static const uint64_t paint = 0xa5a5a5a5a5a5a5a5u;
 

@@ -57,7 +57,7 @@ pub one-shl : (w n : ℕ) → n < w → 1 * 2 ^ n % 2 ^ w ≡ 2 ^ n
 one-shl w n h = shl-exact {a = 1} 1 n w (omega arith) (omega arith) ∙ omega arith
 
 -- what the code computes of four bytes
-pub word-run : (s : List ℕ) (at n : ℕ) {a b c d : ℕ} → n ≤ 20 → (a ≡ getD s (at / 8) 0) × (a < 256)
+pub word-run : (s : List ℕ) (at n : ℕ) {a b c d : ℕ} → n ≤ 24 → (a ≡ getD s (at / 8) 0) × (a < 256)
     → (b ≡ getD s (at / 8 + 1) 0) × (b < 256)
     → (c ≡ getD s (at / 8 + 2) 0) × (c < 256) → (d ≡ getD s (at / 8 + 3) 0) × (d < 256)
     → (((a * 256 + b) * 256 + c) * 256 + d) / 2 ^ (32 - (at % 8 + n)) % (1 * 2 ^ n % 2 ^ 64) ≡ bitsFrom s at n

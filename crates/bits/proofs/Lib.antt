@@ -1,6 +1,7 @@
 pub mod Bools
 pub mod BitLaws
 pub mod FourBytes
+pub mod WindowLaws
 pub mod Lawful
 pub mod FieldLaws
 pub mod Taken

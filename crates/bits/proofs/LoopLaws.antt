@@ -1,10 +1,10 @@
 -- Loops of readers keep the reading laws; and what a loop of the code cites, of which i of n turns are done.
 -- Assumes nothing.
 use Prim.Native.Nat.{ℕ, zero, suc, _+_, _-_, _<_, _≤_}
-use mathlib.Core.Path.{_≡_}
+use mathlib.Core.Path.{_≡_, refl}
 use mathlib.Core.List.{List, [], _∷_, _++_}
 use native.Mathlib.Omega.{arith}
-use Rattle.bits.specs.Reader.{got, refused, Reader, give}
+use Rattle.bits.specs.Reader.{Answer, got, refused, Reader, give, after}
 use Rattle.bits.specs.Loop.{counted, more, listed}
 use Rattle.bits.proofs.Lawful.{Accepting, Lawful, bind-accepting, bind-lawful, give-lawful}
 
@@ -35,6 +35,19 @@ module _ {S : Type 0} (f : ℕ → S → Reader S) where
   pub counted-done : (i n : ℕ) (x : S) (s : List ℕ) (at end : ℕ) → n ≤ i → counted i (n - i) f x s at end ≡ got x at
   unfolding counted
   counted-done i n x s at end h = let q : n - i ≡ 0 = omega arith in rw q
+
+-- steps that answer the same
+pub counted-same : {S : Type 0} (f g : ℕ → S → Reader S)
+    → ((i : ℕ) (x : S) (s : List ℕ) (at end : ℕ) → f i x s at end ≡ g i x s at end)
+    → (i n : ℕ) (x : S) (s : List ℕ) (at end : ℕ) → counted i n f x s at end ≡ counted i n g x s at end
+unfolding counted
+counted-same f g e i zero x s at end = refl
+counted-same {S} f g e i (suc n) x s at end = rw (e i x s at end) (go (g i x s at end) (counted-same f g e (i + 1) n))
+  where
+    go : (a : Answer S) → ((x : S) (s : List ℕ) (at end : ℕ) → counted (i + 1) n f x s at end ≡ counted (i + 1) n g x s at end)
+        → after a (counted (i + 1) n f) s end ≡ after a (counted (i + 1) n g) s end
+    go (got y next) r = r y s next end
+    go (refused m p) r = refl
 
 module _ {A : Type 0} (f : List A → Reader A) where
   pub listed-lawful : ((xs : List A) → Lawful (f xs)) → (n : ℕ) → Lawful (listed n f)

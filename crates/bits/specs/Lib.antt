@@ -11,6 +11,7 @@ pub mod Spelled
 pub mod Packed
 pub mod Writable
 pub mod InnerAnswers
+pub mod InnerWindow
 pub mod InnerReplaced
 pub mod Bytes
 pub mod Calls

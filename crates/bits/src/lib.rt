@@ -10,6 +10,7 @@ ghost use Rattle.bits.specs.InnerAnswers.{fieldAnswer, passedOn};
 
 pub mod bytes;
 pub mod calls;
+pub mod window;
 pub mod write;
 
 // What reading a field or a word finds: its value and the next place, or a refusal and the place of the field judged.
@@ -46,7 +47,7 @@ fn byte(s: &[u8], i: usize) -> u64
 
 // The number that n bits from a place are, by four bytes at once.
 pub fn bits_at(s: &[u8], at: usize, n: usize) -> u32
-    requires { ⌜ n ≤ 20 ⌝ }
+    requires { ⌜ n ≤ 24 ⌝ }
     ensures { λ r. ⌜ r ≡ bitsFrom (now (s .entry)) at n ⌝ }
 {
     let i = at / 8;

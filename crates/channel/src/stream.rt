@@ -5,7 +5,7 @@ ghost use lib.IntN.{pos};
 ghost use lib.ListN.{length, replicate};
 ghost use Rattle.bits.specs.InnerAnswers.{fieldAnswer, endedAnswer};
 ghost use Rattle.bits.specs.Payload.{whole};
-ghost use Rattle.tables.specs.Tables.{Tables};
+ghost use Rattle.tables.specs.InnerLent.{ChannelTables};
 ghost use Rattle.channel_lines.specs.Bands.{bands};
 ghost use Rattle.channel_lines.specs.InnerBands.{allEdges};
 ghost use Rattle.channel_side.specs.InnerAnswers.{Bounded};
@@ -83,15 +83,14 @@ fn read_unpulsed(
     s: &[u8],
     at: usize,
     end: usize,
-    codes: &[u32],
-    lens: &[u8],
+    lookups: &[u16],
     edges: &[usize],
     index: u8,
     window: Window,
     books: &[u8; 120],
     lines: &mut [i16; 1024],
 ) -> Ended
-    requires { ⌜ (end ≤ 8 * length (now s)) × Tables (now codes) (now lens) × (now edges ≡ bands index (isShort window))
+    requires { ⌜ (end ≤ 8 * length (now s)) × ChannelTables (now lookups) × (now edges ≡ bands index (isShort window))
         × Bounded index window × (now lines ≡ replicate 1024 (pos 0)) ⌝ }
     ensures { λ r. ⌜ endedAnswer r (now (lines .exit)) ≡ unpulsed index window (now (books .entry)) (now (s .entry)) at end ⌝ }
 {
@@ -105,8 +104,7 @@ fn read_unpulsed(
         s,
         after_flags,
         end,
-        codes,
-        lens,
+        lookups,
         edges,
         short,
         max_sfb,
@@ -121,15 +119,14 @@ fn read_pulsed(
     s: &[u8],
     at: usize,
     end: usize,
-    codes: &[u32],
-    lens: &[u8],
+    lookups: &[u16],
     edges: &[usize],
     index: u8,
     window: Window,
     books: &[u8; 120],
     lines: &mut [i16; 1024],
 ) -> Ended
-    requires { ⌜ (end ≤ 8 * length (now s)) × Tables (now codes) (now lens) × (now edges ≡ bands index (isShort window))
+    requires { ⌜ (end ≤ 8 * length (now s)) × ChannelTables (now lookups) × (now edges ≡ bands index (isShort window))
         × Bounded index window × (now lines ≡ replicate 1024 (pos 0)) ⌝ }
     ensures { λ r. ⌜ HoldsLines r (now (lines .exit)) (codedOf index window (now (books .entry)) (now (s .entry)) at end) ⌝ }
 {
@@ -143,8 +140,7 @@ fn read_pulsed(
         s,
         after_pulses,
         end,
-        codes,
-        lens,
+        lookups,
         edges,
         index,
         window,
@@ -162,15 +158,14 @@ fn read_coded(
     s: &[u8],
     at: usize,
     end: usize,
-    codes: &[u32],
-    lens: &[u8],
+    lookups: &[u16],
     edges: &[usize],
     index: u8,
     window: Window,
     books: &[u8; 120],
     lines: &mut [i16; 1024],
 ) -> Ended
-    requires { ⌜ (end ≤ 8 * length (now s)) × Tables (now codes) (now lens) × (now edges ≡ allEdges)
+    requires { ⌜ (end ≤ 8 * length (now s)) × ChannelTables (now lookups) × (now edges ≡ allEdges)
         × Bounded index window
         × (now lines ≡ replicate 1024 (pos 0)) ⌝ }
     ensures { λ r. ⌜ HoldsLines r (now (lines .exit)) (codedOf index window (now (books .entry)) (now (s .entry)) at end) ⌝ }
@@ -182,8 +177,7 @@ fn read_coded(
         s,
         at,
         end,
-        codes,
-        lens,
+        lookups,
         &edges[first..last],
         index,
         window,
@@ -197,15 +191,14 @@ fn read_scale_factors(
     s: &[u8],
     at: usize,
     end: usize,
-    codes: &[u32],
-    lens: &[u8],
+    lookups: &[u16],
     index: u8,
     head: Head,
     books: &[u8; 120],
     factors: &mut [u8; 120],
 ) -> Ended
     requires { ⌜ (end ≤ 8 * length (now s))
-        × Tables (now codes) (now lens)
+        × ChannelTables (now lookups)
         × Bounded index (head .window)
         × (now factors ≡ replicate 120 0) ⌝ }
     ensures { λ r. ⌜ endedAnswer r (now (factors .exit))
@@ -214,7 +207,7 @@ fn read_scale_factors(
     let window = head.window;
     let groups = groups_of(window.sequence == 2, window.grouping);
     let n = groups.count * window.max_sfb as usize;
-    read_factors(s, at, end, codes, lens, n, head.gain as u32, books, factors)
+    read_factors(s, at, end, lookups, n, head.gain as u32, books, factors)
 }
 
 // The rest of a stream after its books, with the edges of all bands, into arrays of zeros.
@@ -222,8 +215,7 @@ fn read_with_books(
     s: &[u8],
     at: usize,
     end: usize,
-    codes: &[u32],
-    lens: &[u8],
+    lookups: &[u16],
     edges: &[usize],
     index: u8,
     head: Head,
@@ -231,12 +223,12 @@ fn read_with_books(
     factors: &mut [u8; 120],
     lines: &mut [i16; 1024],
 ) -> Ended
-    requires { ⌜ (end ≤ 8 * length (now s)) × Tables (now codes) (now lens) × (now edges ≡ allEdges) × Bounded index (head .window)
+    requires { ⌜ (end ≤ 8 * length (now s)) × ChannelTables (now lookups) × (now edges ≡ allEdges) × Bounded index (head .window)
         × (now factors ≡ replicate 120 0) × (now lines ≡ replicate 1024 (pos 0)) ⌝ }
     ensures { λ r. ⌜ HoldsStream r head (now (books .entry)) (now (factors .exit)) (now (lines .exit))
         (streamWith index head (now (books .entry)) (now (s .entry)) at end) ⌝ }
 {
-    let scale = read_scale_factors(s, at, end, codes, lens, index, head, books, factors);
+    let scale = read_scale_factors(s, at, end, lookups, index, head, books, factors);
     let Ended::At(after_factors) = scale else {
         return scale;
     };
@@ -245,8 +237,7 @@ fn read_with_books(
         s,
         after_factors,
         end,
-        codes,
-        lens,
+        lookups,
         edges,
         index,
         window,
@@ -260,8 +251,7 @@ fn read_body(
     s: &[u8],
     at: usize,
     end: usize,
-    codes: &[u32],
-    lens: &[u8],
+    lookups: &[u16],
     edges: &[usize],
     index: u8,
     head: Head,
@@ -269,7 +259,7 @@ fn read_body(
     factors: &mut [u8; 120],
     lines: &mut [i16; 1024],
 ) -> Ended
-    requires { ⌜ (end ≤ 8 * length (now s)) × Tables (now codes) (now lens) × (now edges ≡ allEdges) × Bounded index (head .window)
+    requires { ⌜ (end ≤ 8 * length (now s)) × ChannelTables (now lookups) × (now edges ≡ allEdges) × Bounded index (head .window)
         × (now books ≡ replicate 120 0) × (now factors ≡ replicate 120 0) × (now lines ≡ replicate 1024 (pos 0)) ⌝ }
     ensures { λ r. ⌜ HoldsStream r head (now (books .exit)) (now (factors .exit)) (now (lines .exit))
         (streamAfter index head (now (s .entry)) at end) ⌝ }
@@ -285,8 +275,7 @@ fn read_body(
         s,
         after_sections,
         end,
-        codes,
-        lens,
+        lookups,
         edges,
         index,
         head,
@@ -301,15 +290,14 @@ fn read_stream(
     s: &[u8],
     at: usize,
     end: usize,
-    codes: &[u32],
-    lens: &[u8],
+    lookups: &[u16],
     edges: &[usize],
     index: u8,
     books: &mut [u8; 120],
     factors: &mut [u8; 120],
     lines: &mut [i16; 1024],
 ) -> ReadHead
-    requires { ⌜ (end ≤ 8 * length (now s)) × Tables (now codes) (now lens) × (now edges ≡ allEdges)
+    requires { ⌜ (end ≤ 8 * length (now s)) × ChannelTables (now lookups) × (now edges ≡ allEdges)
         × (now books ≡ replicate 120 0) × (now factors ≡ replicate 120 0) × (now lines ≡ replicate 1024 (pos 0)) ⌝ }
     ensures { λ r. ⌜ HoldsStream (r .ended) (r .head) (now (books .exit)) (now (factors .exit)) (now (lines .exit))
         (stream index (now (s .entry)) at end) ⌝ }
@@ -324,8 +312,7 @@ fn read_stream(
         s,
         after_head,
         end,
-        codes,
-        lens,
+        lookups,
         edges,
         index,
         head,
@@ -353,21 +340,9 @@ pub fn read_from(
     ensures { λ r. ⌜ HoldsStream (r .ended) (r .head) (now (books .exit)) (now (factors .exit)) (now (lines .exit))
         (stream index (now (s .entry)) at end) ⌝ }
 {
-    let codes = tables::codes();
-    let lens = tables::lens();
+    let lookups = tables::channel_lookups();
     let edges = channel_lines::bands::edges();
-    read_stream(
-        s,
-        at,
-        end,
-        &codes,
-        &lens,
-        &edges,
-        index,
-        books,
-        factors,
-        lines,
-    )
+    read_stream(s, at, end, &lookups, &edges, index, books, factors, lines)
 }
 
 // A whole payload, into arrays of zeros: at most 7 bits are left after it. No stream goes further than 4,750 bytes, so that one byte

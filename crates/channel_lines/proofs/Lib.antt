@@ -1,7 +1,8 @@
 pub mod BandLaws
 pub mod GroupingLaws
 pub mod BookLaws
-pub mod TupleLaws
+pub mod MagnitudeLaws
+pub mod ValueLaws
 pub mod SpectrumLaws
 pub mod SpectrumLawful
 pub mod SpectrumMoves

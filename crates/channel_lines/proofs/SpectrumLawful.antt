@@ -8,7 +8,7 @@ use Rattle.bits.proofs.FieldLaws.{field-lawful}
 use Rattle.bits.proofs.LoopLaws.{counted-lawful}
 use Rattle.words.proofs.EscapeLaws.{escape-lawful}
 use Rattle.tables.proofs.Rules.{lawful-at}
-use Rattle.channel_lines.specs.declared.books.Book.{Book}
+use Rattle.channel_lines.specs.Books.{Book}
 use Rattle.channel_lines.specs.Tuple.{spectralWord, value, escapeAt, escaped, tuple}
 use Rattle.channel_lines.specs.Spectrum.{bandWord, band, windowsBand, groupBand, groupLines, spectrum}
 

@@ -17,8 +17,7 @@ use Rattle.tables.proofs.WordNear.{word-near}
 use Rattle.channel_lines.specs.Bands.{bands, bandCount, bandWidth}
 use Rattle.channel_lines.specs.InnerBands.{windowLines, Rising}
 use Rattle.channel_lines.specs.Grouping.{groupsOf}
-use Rattle.channel_lines.specs.declared.books.Book.{Book}
-use Rattle.channel_lines.specs.Books.{isSilent, bookOf}
+use Rattle.channel_lines.specs.Books.{Book, isSilent, bookOf}
 use Rattle.channel_lines.specs.Tuple.{spectralWord, digit, value, escapeAt, escaped, tuple}
 use Rattle.channel_lines.specs.Spectrum.{bandWord, band, windowsBand, groupBand, groupLines, spectrum}
 use Rattle.channel_lines.proofs.BandLaws.{bands-rising, bands-some}

@@ -4,10 +4,15 @@ use mathlib.Core.List.{List, [], _∷_}
 use mathlib.Core.Bool.{Bool}
 use lib.Dec.{eqb}
 use lib.ListN.{getD}
-use Rattle.channel_lines.specs.declared.books.Book.{Book}
 
 -- a book: its number, the values in a word, how many numbers a value can be, and the maximum that signed values are
 -- offset by, 0 where values are unsigned
+pub record Book : Type 0 where
+  pub number : ℕ
+  pub dim : ℕ
+  pub base : ℕ
+  pub offset : ℕ
+
 abbrev pub book : ℕ → ℕ → ℕ → ℕ → Book
 book number dim base offset = record { number = number; dim = dim; base = base; offset = offset }
 

@@ -4,4 +4,5 @@ pub mod Books
 pub mod Tuple
 pub mod Spectrum
 pub mod InnerBands
-pub mod InnerBooks
+pub mod InnerWords
+pub mod InnerPairs

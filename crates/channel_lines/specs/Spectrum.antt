@@ -6,8 +6,7 @@ use lib.IntN.{ℤ, pos}
 use Rattle.bits.specs.Reader.{Reader, give, pick, _>>=_}
 use Rattle.bits.specs.Loop.{counted}
 use Rattle.channel_lines.specs.Bands.{firstLine, bandWidth}
-use Rattle.channel_lines.specs.declared.books.Book.{Book}
-use Rattle.channel_lines.specs.Books.{isSilent, bookOf}
+use Rattle.channel_lines.specs.Books.{Book, isSilent, bookOf}
 use Rattle.channel_lines.specs.Tuple.{tuple}
 
 -- the first n of some values put in the lines, from line k on

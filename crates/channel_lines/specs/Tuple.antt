@@ -11,7 +11,7 @@ use Rattle.bits.specs.Loop.{counted}
 use Rattle.words.specs.Escape.{escape}
 use Rattle.tables.specs.Tables.{wordOf}
 use Rattle.tables.specs.GeneratedNames.{tableAt}
-use Rattle.channel_lines.specs.declared.books.Book.{Book}
+use Rattle.channel_lines.specs.Books.{Book}
 
 -- the entry of a word of a spectral book, whose table stands at its number
 unfoldable pub spectralWord : ℕ → Reader ℕ

@@ -4,14 +4,17 @@ ghost use Prim.Native.Nat.{suc, _+_, _*_, _-_, _<_, _≤_};
 ghost use lib.ListN.{length};
 ghost use Rattle.bits.specs.Loop.{counted};
 ghost use Rattle.bits.specs.InnerAnswers.{endedAnswer};
-ghost use Rattle.tables.specs.Tables.{Tables};
+ghost use Rattle.tables.specs.InnerLent.{ChannelTables};
 ghost use Rattle.channel_lines.specs.InnerBands.{Rising, windowLines, mostBands};
 ghost use Rattle.channel_lines.specs.Books.{bookOf};
 ghost use Rattle.channel_lines.specs.Grouping.{groupsAfter, groupsOf};
-ghost use Rattle.channel_lines.specs.Spectrum.{put, band, windowsBand, groupBand, groupLines};
-use crate::books::book_of;
+ghost use Rattle.channel_lines.specs.InnerWords.{BookLookup};
+ghost use Rattle.channel_lines.specs.Spectrum.{band, windowsBand, groupBand, groupLines};
 use crate::grouping::group_length;
-use crate::tuple::read_tuple;
+use crate::pairs::read_signed_pairs;
+use crate::pairs::read_unsigned_pairs;
+use crate::quads::read_signed_quads;
+use crate::quads::read_unsigned_quads;
 use bits::Ended;
 
 // A group of windows: where its books start, its first window, and how many windows it has.
@@ -32,52 +35,74 @@ fn group_at(base: usize, from: usize, windows: usize) -> Group
     }
 }
 
-// The first n of some values are put in the lines, from line k on.
-fn put_values(lines: &mut [i16; 1024], k: usize, n: usize, values: &[i16; 4])
-    requires { ⌜ (k + n ≤ 1024) × (n ≤ 4) ⌝ }
-    ensures { λ _. ⌜ now (lines .exit) ≡ put (now (lines .entry)) k n (now (values .entry)) ⌝ }
-{
-    let mut i = 0;
-    while i < n {
-        lines[k + i] = values[i];
-        i += 1;
-    }
-}
-
-// The lines of a band of one window, which has the book of a number.
-fn read_band(
+// The lines of a band of one window, which has the spectral book of a number and its lookup.
+fn read_spectral_band(
     s: &[u8],
     at: usize,
     end: usize,
-    codes: &[u32],
-    lens: &[u8],
+    look: &[u16],
+    bits: usize,
     number: u8,
     first: usize,
     width: usize,
     lines: &mut [i16; 1024],
 ) -> Ended
-    requires { ⌜ (end ≤ 8 * length (now s)) × Tables (now codes) (now lens) × (first + width ≤ 1024) ⌝ }
+    requires { ⌜ (end ≤ 8 * length (now s)) × BookLookup (now look) bits number × (1 ≤ number) × (number ≤ 11)
+        × (first + width ≤ 1024) ⌝ }
     ensures { λ r. ⌜ endedAnswer r (now (lines .exit)) ≡ band (bookOf number) first width (now (lines .entry)) (now (s .entry)) at end ⌝ }
 {
-    let book = book_of(number);
-    let dim = book.dim;
-    if dim == 0 {
+    if number <= 2 {
+        return read_signed_quads(s, at, end, look, bits, first, width / 4, lines);
+    }
+    if number <= 4 {
+        return read_unsigned_quads(s, at, end, look, bits, first, width / 4, lines);
+    }
+    if number <= 6 {
+        return read_signed_pairs(s, at, end, look, bits, first, width / 2, lines);
+    }
+    if number <= 8 {
+        return read_unsigned_pairs(s, at, end, look, bits, 8, first, width / 2, lines);
+    }
+    if number <= 10 {
+        return read_unsigned_pairs(s, at, end, look, bits, 13, first, width / 2, lines);
+    }
+    read_unsigned_pairs(s, at, end, look, bits, 17, first, width / 2, lines)
+}
+
+// The lines of a band of one window, which has the book of a number; one that is not spectral sends none.
+fn read_band(
+    s: &[u8],
+    at: usize,
+    end: usize,
+    lookups: &[u16],
+    number: u8,
+    first: usize,
+    width: usize,
+    lines: &mut [i16; 1024],
+) -> Ended
+    requires { ⌜ (end ≤ 8 * length (now s)) × ChannelTables (now lookups) × (first + width ≤ 1024) ⌝ }
+    ensures { λ r. ⌜ endedAnswer r (now (lines .exit)) ≡ band (bookOf number) first width (now (lines .entry)) (now (s .entry)) at end ⌝ }
+{
+    if number == 0 {
         return Ended::At(at);
     }
-    let words = width / dim;
-    let mut place = at;
-    let mut t = 0;
-    while t < words {
-        let mut values = [0i16; 4];
-        let read = read_tuple(s, place, end, codes, lens, book, &mut values);
-        let Ended::At(next) = read else {
-            return read;
-        };
-        put_values(lines, first + t * dim, dim, &values);
-        place = next;
-        t += 1;
+    if 11 < number {
+        return Ended::At(at);
     }
-    Ended::At(place)
+    let lookup = tables::lookup_of(lookups, number as usize);
+    let from = lookup.first;
+    let to = lookup.last;
+    read_spectral_band(
+        s,
+        at,
+        end,
+        &lookups[from..to],
+        lookup.bits,
+        number,
+        first,
+        width,
+        lines,
+    )
 }
 
 // A band of a book's number, in each window of a group.
@@ -85,15 +110,14 @@ fn read_windows(
     s: &[u8],
     at: usize,
     end: usize,
-    codes: &[u32],
-    lens: &[u8],
+    lookups: &[u16],
     number: u8,
     first: usize,
     width: usize,
     group: Group,
     lines: &mut [i16; 1024],
 ) -> Ended
-    requires { ⌜ (end ≤ 8 * length (now s)) × Tables (now codes) (now lens)
+    requires { ⌜ (end ≤ 8 * length (now s)) × ChannelTables (now lookups)
         × (128 * (group .from + group .windows) + (first + width) ≤ 1152) ⌝ }
     ensures { λ r. ⌜ endedAnswer r (now (lines .exit))
         ≡ windowsBand number first width (group .from) (group .windows) (now (lines .entry)) (now (s .entry)) at end ⌝ }
@@ -102,7 +126,7 @@ fn read_windows(
     let mut v = group.from;
     while v < group.from + group.windows {
         let line = 128 * v + first;
-        let read = read_band(s, place, end, codes, lens, number, line, width, lines);
+        let read = read_band(s, place, end, lookups, number, line, width, lines);
         let Ended::At(next) = read else {
             return read;
         };
@@ -117,8 +141,7 @@ fn read_group_band(
     s: &[u8],
     at: usize,
     end: usize,
-    codes: &[u32],
-    lens: &[u8],
+    lookups: &[u16],
     edges: &[usize],
     books: &[u8; 120],
     group: Group,
@@ -126,7 +149,7 @@ fn read_group_band(
     lines: &mut [i16; 1024],
 ) -> Ended
     requires { ⌜ (end ≤ 8 * length (now s))
-        × Tables (now codes) (now lens)
+        × ChannelTables (now lookups)
         × Rising (now edges) (1152 - 128 * (group .from + group .windows))
         × (suc b < length (now edges))
         × (group .base + b < 120)
@@ -138,7 +161,7 @@ fn read_group_band(
     let number = books[group.base + b];
     let first = edges[b];
     let width = edges[b + 1] - first;
-    read_windows(s, at, end, codes, lens, number, first, width, group, lines)
+    read_windows(s, at, end, lookups, number, first, width, group, lines)
 }
 
 // The lines of a group of windows.
@@ -146,8 +169,7 @@ fn read_group(
     s: &[u8],
     at: usize,
     end: usize,
-    codes: &[u32],
-    lens: &[u8],
+    lookups: &[u16],
     edges: &[usize],
     max_sfb: usize,
     books: &[u8; 120],
@@ -155,7 +177,7 @@ fn read_group(
     lines: &mut [i16; 1024],
 ) -> Ended
     requires { ⌜ (end ≤ 8 * length (now s))
-        × Tables (now codes) (now lens)
+        × ChannelTables (now lookups)
         × Rising (now edges) (1152 - 128 * (group .from + group .windows))
         × («max_sfb» < length (now edges))
         × (group .base + «max_sfb» ≤ 120)
@@ -167,7 +189,7 @@ fn read_group(
     let mut place = at;
     let mut b = 0;
     while b < max_sfb {
-        let read = read_group_band(s, place, end, codes, lens, edges, books, group, b, lines);
+        let read = read_group_band(s, place, end, lookups, edges, books, group, b, lines);
         let Ended::At(next) = read else {
             return read;
         };
@@ -182,8 +204,7 @@ fn read_groups(
     s: &[u8],
     start: usize,
     end: usize,
-    codes: &[u32],
-    lens: &[u8],
+    lookups: &[u16],
     edges: &[usize],
     max_sfb: usize,
     grouping: u8,
@@ -191,7 +212,7 @@ fn read_groups(
     lines: &mut [i16; 1024],
 ) -> Ended
     requires { ⌜ (end ≤ 8 * length (now s))
-        × Tables (now codes) (now lens)
+        × ChannelTables (now lookups)
         × Rising (now edges) 128
         × («max_sfb» < length (now edges))
         × («max_sfb» ≤ 15) ⌝ }
@@ -205,7 +226,7 @@ fn read_groups(
     while from < 8 {
         let windows = group_length(grouping, from);
         let group = group_at(base, from, windows);
-        let read = read_group(s, at, end, codes, lens, edges, max_sfb, books, group, lines);
+        let read = read_group(s, at, end, lookups, edges, max_sfb, books, group, lines);
         let Ended::At(next) = read else {
             return read;
         };
@@ -221,8 +242,7 @@ pub fn read_lines(
     s: &[u8],
     at: usize,
     end: usize,
-    codes: &[u32],
-    lens: &[u8],
+    lookups: &[u16],
     edges: &[usize],
     short: bool,
     max_sfb: usize,
@@ -231,7 +251,7 @@ pub fn read_lines(
     lines: &mut [i16; 1024],
 ) -> Ended
     requires { ⌜ (end ≤ 8 * length (now s))
-        × Tables (now codes) (now lens)
+        × ChannelTables (now lookups)
         × Rising (now edges) (windowLines short)
         × («max_sfb» < length (now edges))
         × («max_sfb» ≤ mostBands short) ⌝ }
@@ -240,19 +260,8 @@ pub fn read_lines(
         (now (lines .entry)) (now (s .entry)) at end ⌝ }
 {
     if short {
-        return read_groups(
-            s,
-            at,
-            end,
-            codes,
-            lens,
-            edges,
-            max_sfb,
-            grouping,
-            books,
-            lines,
-        );
+        return read_groups(s, at, end, lookups, edges, max_sfb, grouping, books, lines);
     }
     let only = group_at(0, 0, 1);
-    read_group(s, at, end, codes, lens, edges, max_sfb, books, only, lines)
+    read_group(s, at, end, lookups, edges, max_sfb, books, only, lines)
 }

@@ -3,7 +3,7 @@ ghost use mathlib.Core.Path.{_≡_};
 ghost use Prim.Native.Nat.{_*_, _≤_, _<_};
 ghost use lib.ListN.{length};
 ghost use Rattle.bits.specs.InnerAnswers.{endedAnswer};
-ghost use Rattle.tables.specs.Tables.{Tables};
+ghost use Rattle.tables.specs.InnerLent.{ChannelTables};
 ghost use Rattle.channel_side.specs.InnerAnswers.{factorAnswer, Small};
 ghost use Rattle.channel_side.specs.Factors.{bandFactor, firstFactors};
 use bits::Ended;
@@ -14,14 +14,13 @@ fn read_factor(
     s: &[u8],
     at: usize,
     end: usize,
-    codes: &[u32],
-    lens: &[u8],
+    lookups: &[u16],
     books: &[u8; 120],
     i: usize,
     last: u32,
     factors: &mut [u8; 120],
 ) -> Field
-    requires { ⌜ (end ≤ 8 * length (now s)) × Tables (now codes) (now lens) × (i < 120) × (last ≤ 255) ⌝ }
+    requires { ⌜ (end ≤ 8 * length (now s)) × ChannelTables (now lookups) × (i < 120) × (last ≤ 255) ⌝ }
     ensures { λ r. ⌜ (factorAnswer r (now (factors .exit))
         ≡ bandFactor (now (books .entry)) i (record { last = last; values = now (factors .entry) }) (now (s .entry)) at end)
         × Small r ⌝ }
@@ -29,7 +28,7 @@ fn read_factor(
     if books[i] == 0 {
         return Field::Got(last, at);
     }
-    let word = tables::generated_readers::scale_factor_word(s, at, end, codes, lens);
+    let word = tables::read_word(s, at, end, lookups, 0);
     let Field::Got(entry, after_word) = word else {
         return word;
     };
@@ -49,14 +48,13 @@ pub fn read_factors(
     s: &[u8],
     at: usize,
     end: usize,
-    codes: &[u32],
-    lens: &[u8],
+    lookups: &[u16],
     n: usize,
     gain: u32,
     books: &[u8; 120],
     factors: &mut [u8; 120],
 ) -> Ended
-    requires { ⌜ (end ≤ 8 * length (now s)) × Tables (now codes) (now lens) × (n ≤ 120) × (gain ≤ 255) ⌝ }
+    requires { ⌜ (end ≤ 8 * length (now s)) × ChannelTables (now lookups) × (n ≤ 120) × (gain ≤ 255) ⌝ }
     ensures { λ r. ⌜ endedAnswer r (now (factors .exit))
         ≡ firstFactors n gain (now (books .entry)) (now (factors .entry)) (now (s .entry)) at end ⌝ }
 {
@@ -64,7 +62,7 @@ pub fn read_factors(
     let mut place = at;
     let mut i = 0;
     while i < n {
-        let factor = read_factor(s, place, end, codes, lens, books, i, last, factors);
+        let factor = read_factor(s, place, end, lookups, books, i, last, factors);
         let Field::Got(value, next) = factor else {
             return bits::passed_on(factor);
         };

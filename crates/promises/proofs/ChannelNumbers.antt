@@ -20,8 +20,7 @@ use Rattle.words.specs.Escape.{escape}
 use Rattle.tables.specs.Tables.{codesOf, lensOf, wordOf}
 use Rattle.tables.specs.GeneratedNames.{tableAt, scaleFactor}
 use Rattle.tables.proofs.Rules.{ruled-at}
-use Rattle.channel_lines.specs.declared.books.Book.{Book}
-use Rattle.channel_lines.specs.Books.{isSilent, bookOf}
+use Rattle.channel_lines.specs.Books.{Book, isSilent, bookOf}
 use Rattle.channel_lines.proofs.BookLaws.{spectral-book}
 use Rattle.bits.proofs.Bools.{true-false}
 use borrow.Author.Tests.{eq-eqb}

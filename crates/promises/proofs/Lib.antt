@@ -27,3 +27,4 @@ pub mod Refusals
 pub mod Places
 pub mod Returned
 pub mod Untouched
+pub mod LookupExamples

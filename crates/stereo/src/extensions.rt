@@ -7,7 +7,7 @@ ghost use Rattle.bits.specs.Reader.{refused, pick};
 ghost use Rattle.bits.specs.Bits.{bitsFrom};
 ghost use Rattle.bits.specs.Field.{zeroBit};
 ghost use Rattle.bits.specs.InnerAnswers.{fieldAnswer, endedAnswer, passedOn};
-ghost use Rattle.tables.specs.Tables.{Tables};
+ghost use Rattle.tables.specs.InnerLent.{StereoTables};
 ghost use Rattle.stereo_indices.specs.Record.{recordOf};
 ghost use Rattle.stereo.specs.Extension.{noPhases, noBody, noPart, noExtension, phasesIn, phasesOf, phases, hasMode, phaseFlag, v0};
 ghost use Rattle.stereo.specs.Extension.{part, announced, escCount, extensionSent, extension};
@@ -51,20 +51,19 @@ fn read_phases(
     end: usize,
     mode: u32,
     records: PhaseRecords,
-    codes: &[u32],
-    lens: &[u8],
+    lookups: &[u16],
 ) -> ReadPhases
-    requires { ⌜ (end ≤ 8 * length (now s)) × Tables (now codes) (now lens) ⌝ }
+    requires { ⌜ (end ≤ 8 * length (now s)) × StereoTables (now lookups) ⌝ }
     ensures { λ r. ⌜ endedAnswer (r .ended) (r .phases) ≡ phasesIn mode (records .ipd) (records .opd) (now (s .entry)) at end ⌝ }
 {
     let rec = records.ipd;
-    let first = rows::read_row(s, at, end, Kind::Ipd, mode, rec, codes, lens);
+    let first = rows::read_row(s, at, end, Kind::Ipd, mode, rec, lookups);
     let ended = first.ended;
     let ipd = first.row;
     match ended {
         Ended::At(next) => {
             let rec = records.opd;
-            let second = rows::read_row(s, next, end, Kind::Opd, mode, rec, codes, lens);
+            let second = rows::read_row(s, next, end, Kind::Opd, mode, rec, lookups);
             let ended = second.ended;
             let opd = second.row;
             let phases = Phases { ipd, opd };
@@ -98,10 +97,9 @@ fn read_phases_of(
     mode: u32,
     records: PhaseRecords,
     n: usize,
-    codes: &[u32],
-    lens: &[u8],
+    lookups: &[u16],
 ) -> ReadAllPhases
-    requires { ⌜ (end ≤ 8 * length (now s)) × Tables (now codes) (now lens) × (n ≤ 4) ⌝ }
+    requires { ⌜ (end ≤ 8 * length (now s)) × StereoTables (now lookups) × (n ≤ 4) ⌝ }
     ensures { λ r. ⌜ endedAnswer (r .ended) (r .phases) ≡ phasesOf mode (records .ipd) (records .opd) n (now (s .entry)) at end ⌝ }
 {
     let mut phases = none_of_four();
@@ -109,7 +107,7 @@ fn read_phases_of(
     let mut place = at;
     let mut k = 0;
     while k < n {
-        let read = read_phases(s, place, end, mode, last, codes, lens);
+        let read = read_phases(s, place, end, mode, last, lookups);
         let ended = read.ended;
         let here = read.phases;
         match ended {
@@ -135,14 +133,13 @@ fn read_all_phases(
     mode: u32,
     records: PhaseRecords,
     n: usize,
-    codes: &[u32],
-    lens: &[u8],
+    lookups: &[u16],
 ) -> ReadAllPhases
-    requires { ⌜ (end ≤ 8 * length (now s)) × Tables (now codes) (now lens) × (n ≤ 4) ⌝ }
+    requires { ⌜ (end ≤ 8 * length (now s)) × StereoTables (now lookups) × (n ≤ 4) ⌝ }
     ensures { λ r. ⌜ endedAnswer (r .ended) (r .phases) ≡ phases on mode (records .ipd) (records .opd) n (now (s .entry)) at end ⌝ }
 {
     if on == 1 {
-        return read_phases_of(s, at, end, mode, records, n, codes, lens);
+        return read_phases_of(s, at, end, mode, records, n, lookups);
     }
     let ended = Ended::At(at);
     let phases = none_of_four();
@@ -205,17 +202,16 @@ fn read_v0(
     mode: u32,
     records: PhaseRecords,
     n: usize,
-    codes: &[u32],
-    lens: &[u8],
+    lookups: &[u16],
 ) -> ReadBody
-    requires { ⌜ (end ≤ 8 * length (now s)) × Tables (now codes) (now lens) × (n ≤ 4) ⌝ }
+    requires { ⌜ (end ≤ 8 * length (now s)) × StereoTables (now lookups) × (n ≤ 4) ⌝ }
     ensures { λ r. ⌜ endedAnswer (r .ended) (r .body) ≡ v0 mode (records .ipd) (records .opd) n (now (s .entry)) at end ⌝ }
 {
     let flag_field = read_phase_flag(s, at, end, mode);
     let Field::Got(phase, after_flag) = flag_field else {
         return refused_body(bits::passed_on(flag_field));
     };
-    let read = read_all_phases(s, after_flag, end, phase, mode, records, n, codes, lens);
+    let read = read_all_phases(s, after_flag, end, phase, mode, records, n, lookups);
     let phases_ended = read.ended;
     let phases = read.phases;
     let Ended::At(after_phases) = phases_ended else {
@@ -257,13 +253,12 @@ fn read_part(
     mode: u32,
     records: PhaseRecords,
     n: usize,
-    codes: &[u32],
-    lens: &[u8],
+    lookups: &[u16],
 ) -> ReadPart
-    requires { ⌜ (end ≤ 8 * length (now s)) × Tables (now codes) (now lens) × (n ≤ 4) ⌝ }
+    requires { ⌜ (end ≤ 8 * length (now s)) × StereoTables (now lookups) × (n ≤ 4) ⌝ }
     ensures { λ r. ⌜ endedAnswer (r .ended) (r .part) ≡ part mode (records .ipd) (records .opd) n (now (s .entry)) at end ⌝ }
 {
-    let read = read_v0(s, at, end, mode, records, n, codes, lens);
+    let read = read_v0(s, at, end, mode, records, n, lookups);
     let ended = read.ended;
     let body = read.body;
     let Ended::At(next) = ended else {
@@ -306,10 +301,9 @@ fn read_announced(
     mode: u32,
     records: PhaseRecords,
     n: usize,
-    codes: &[u32],
-    lens: &[u8],
+    lookups: &[u16],
 ) -> ReadPart
-    requires { ⌜ (end ≤ 8 * length (now s)) × Tables (now codes) (now lens) × (n ≤ 4) × (size ≤ 270) ⌝ }
+    requires { ⌜ (end ≤ 8 * length (now s)) × StereoTables (now lookups) × (n ≤ 4) × (size ≤ 270) ⌝ }
     ensures { λ r. ⌜ endedAnswer (r .ended) (r .part) ≡ announced mode (records .ipd) (records .opd) n size (now (s .entry)) at end ⌝ }
 {
     if size == 0 {
@@ -323,7 +317,7 @@ fn read_announced(
         let part = no_part();
         return ReadPart { ended, part };
     }
-    let read = read_part(s, at, at + bits, mode, records, n, codes, lens);
+    let read = read_part(s, at, at + bits, mode, records, n, lookups);
     let inner = read.ended;
     let ended = inside(inner);
     let part = read.part;
@@ -371,10 +365,9 @@ fn read_extension_sent(
     mode: u32,
     records: PhaseRecords,
     n: usize,
-    codes: &[u32],
-    lens: &[u8],
+    lookups: &[u16],
 ) -> ReadExtension
-    requires { ⌜ (end ≤ 8 * length (now s)) × Tables (now codes) (now lens) × (n ≤ 4) ⌝ }
+    requires { ⌜ (end ≤ 8 * length (now s)) × StereoTables (now lookups) × (n ≤ 4) ⌝ }
     ensures { λ r. ⌜ endedAnswer (r .ended) (r .extension) ≡ extensionSent mode (records .ipd) (records .opd) n (now (s .entry)) at end ⌝ }
 {
     let size_field = bits::read_field(s, at, end, 4);
@@ -386,7 +379,7 @@ fn read_extension_sent(
         return refused_extension(esc_field);
     };
     let total = (size + esc) as usize;
-    let read = read_announced(s, after_esc, end, total, mode, records, n, codes, lens);
+    let read = read_announced(s, after_esc, end, total, mode, records, n, lookups);
     let ended = read.ended;
     let part = read.part;
     let extension = Extension {
@@ -407,14 +400,13 @@ pub fn read_extension(
     mode: u32,
     records: PhaseRecords,
     n: usize,
-    codes: &[u32],
-    lens: &[u8],
+    lookups: &[u16],
 ) -> ReadExtension
-    requires { ⌜ (end ≤ 8 * length (now s)) × Tables (now codes) (now lens) × (n ≤ 4) ⌝ }
+    requires { ⌜ (end ≤ 8 * length (now s)) × StereoTables (now lookups) × (n ≤ 4) ⌝ }
     ensures { λ r. ⌜ endedAnswer (r .ended) (r .extension) ≡ extension on mode (records .ipd) (records .opd) n (now (s .entry)) at end ⌝ }
 {
     if on {
-        return read_extension_sent(s, at, end, mode, records, n, codes, lens);
+        return read_extension_sent(s, at, end, mode, records, n, lookups);
     }
     let ended = Ended::At(at);
     let extension = no_extension();

@@ -3,7 +3,7 @@ ghost use mathlib.Core.Path.{_≡_};
 ghost use Prim.Native.Nat.{_*_, _≤_};
 ghost use lib.ListN.{length};
 ghost use Rattle.bits.specs.InnerAnswers.{endedAnswer};
-ghost use Rattle.tables.specs.Tables.{Tables};
+ghost use Rattle.tables.specs.InnerLent.{StereoTables};
 ghost use Rattle.stereo_indices.specs.Rows.{rows};
 ghost use Rattle.stereo_indices.specs.declared.Kind.the-variants.{Iid, Icc};
 ghost use Rattle.stereo.specs.Extension.{extension};
@@ -66,16 +66,15 @@ fn read_levels(
     state: State,
     setup: Setup,
     n: usize,
-    codes: &[u32],
-    lens: &[u8],
+    lookups: &[u16],
 ) -> ReadRows
-    requires { ⌜ (end ≤ 8 * length (now s)) × Tables (now codes) (now lens) × (n ≤ 4) ⌝ }
+    requires { ⌜ (end ≤ 8 * length (now s)) × StereoTables (now lookups) × (n ≤ 4) ⌝ }
     ensures { λ r. ⌜ endedAnswer (r .ended) (r .rows) ≡ rows Iid (setup .iid) (setup .iidmode) (state .iid) n (now (s .entry)) at end ⌝ }
 {
     let on = setup.iid;
     let mode = setup.iidmode;
     let rec = state.iid;
-    rows::read_kind(s, at, end, Kind::Iid, on, mode, rec, n, codes, lens)
+    rows::read_kind(s, at, end, Kind::Iid, on, mode, rec, n, lookups)
 }
 
 // The ICC rows of n envelopes.
@@ -86,16 +85,15 @@ fn read_coherences(
     state: State,
     setup: Setup,
     n: usize,
-    codes: &[u32],
-    lens: &[u8],
+    lookups: &[u16],
 ) -> ReadRows
-    requires { ⌜ (end ≤ 8 * length (now s)) × Tables (now codes) (now lens) × (n ≤ 4) ⌝ }
+    requires { ⌜ (end ≤ 8 * length (now s)) × StereoTables (now lookups) × (n ≤ 4) ⌝ }
     ensures { λ r. ⌜ endedAnswer (r .ended) (r .rows) ≡ rows Icc (setup .icc) (setup .iccmode) (state .icc) n (now (s .entry)) at end ⌝ }
 {
     let on = setup.icc;
     let mode = setup.iccmode;
     let rec = state.icc;
-    rows::read_kind(s, at, end, Kind::Icc, on, mode, rec, n, codes, lens)
+    rows::read_kind(s, at, end, Kind::Icc, on, mode, rec, n, lookups)
 }
 
 // The extension of a payload of n envelopes.
@@ -106,17 +104,16 @@ fn read_rest(
     state: State,
     setup: Setup,
     n: usize,
-    codes: &[u32],
-    lens: &[u8],
+    lookups: &[u16],
 ) -> ReadExtension
-    requires { ⌜ (end ≤ 8 * length (now s)) × Tables (now codes) (now lens) × (n ≤ 4) ⌝ }
+    requires { ⌜ (end ≤ 8 * length (now s)) × StereoTables (now lookups) × (n ≤ 4) ⌝ }
     ensures { λ r. ⌜ endedAnswer (r .ended) (r .extension) ≡ extension (setup .ext) (setup .iidmode) (state .ipd) (state .opd) n
         (now (s .entry)) at end ⌝ }
 {
     let on = setup.ext;
     let mode = setup.iidmode;
     let records = phase_records(state);
-    extensions::read_extension(s, at, end, on, mode, records, n, codes, lens)
+    extensions::read_extension(s, at, end, on, mode, records, n, lookups)
 }
 
 // What the envelopes of a frame hold.
@@ -128,26 +125,25 @@ fn read_envelopes(
     header: Header,
     setup: Setup,
     frame: Frame,
-    codes: &[u32],
-    lens: &[u8],
+    lookups: &[u16],
 ) -> ReadContents
-    requires { ⌜ (end ≤ 8 * length (now s)) × Tables (now codes) (now lens) × (frame .envelopes ≤ 4) ⌝ }
+    requires { ⌜ (end ≤ 8 * length (now s)) × StereoTables (now lookups) × (frame .envelopes ≤ 4) ⌝ }
     ensures { λ r. ⌜ endedAnswer (r .ended) (r .contents) ≡ envelopes state header setup frame (now (s .entry)) at end ⌝ }
 {
     let n = frame.envelopes;
-    let levels = read_levels(s, at, end, state, setup, n, codes, lens);
+    let levels = read_levels(s, at, end, state, setup, n, lookups);
     let levels_ended = levels.ended;
     let iid = levels.rows;
     let Ended::At(after_levels) = levels_ended else {
         return refused_contents(levels_ended);
     };
-    let coherences = read_coherences(s, after_levels, end, state, setup, n, codes, lens);
+    let coherences = read_coherences(s, after_levels, end, state, setup, n, lookups);
     let coherences_ended = coherences.ended;
     let icc = coherences.rows;
     let Ended::At(after_coherences) = coherences_ended else {
         return refused_contents(coherences_ended);
     };
-    let read = read_rest(s, after_coherences, end, state, setup, n, codes, lens);
+    let read = read_rest(s, after_coherences, end, state, setup, n, lookups);
     let ended = read.ended;
     let extension = read.extension;
     let contents = Contents {
@@ -161,8 +157,8 @@ fn read_envelopes(
 }
 
 // A payload's contents, from its first bit.
-pub fn read_payload(s: &[u8], end: usize, state: State, codes: &[u32], lens: &[u8]) -> ReadContents
-    requires { ⌜ (end ≤ 8 * length (now s)) × Tables (now codes) (now lens) ⌝ }
+pub fn read_payload(s: &[u8], end: usize, state: State, lookups: &[u16]) -> ReadContents
+    requires { ⌜ (end ≤ 8 * length (now s)) × StereoTables (now lookups) ⌝ }
     ensures { λ r. ⌜ endedAnswer (r .ended) (r .contents) ≡ payload state (now (s .entry)) 0 end ⌝ }
 {
     let headed = headers::read_header(s, 0, end);
@@ -179,15 +175,5 @@ pub fn read_payload(s: &[u8], end: usize, state: State, codes: &[u32], lens: &[u
     };
     let before = state.setup;
     let setup = headers::setup_after(before, header);
-    read_envelopes(
-        s,
-        after_frame,
-        end,
-        state,
-        header,
-        setup,
-        frame,
-        codes,
-        lens,
-    )
+    read_envelopes(s, after_frame, end, state, header, setup, frame, lookups)
 }

@@ -1,6 +1,5 @@
 // What a payload's contents lead to: whether they are a restart, and the state after them.
 ghost use mathlib.Core.Path.{_≡_};
-ghost use Prim.Native.Nat.{_-_};
 ghost use lib.Dec.{eqb};
 ghost use lib.ListN.{getD};
 ghost use Rattle.stereo_indices.specs.Rows.{noRow};
@@ -110,29 +109,46 @@ fn record_after(on: bool, mode: u32, rec: Record, n: usize, indices: [i8; 34]) -
     Record { mode, indices }
 }
 
-// The indices of the last of n envelopes; with none, those of an empty row.
+// The indices of the last of n envelopes; with none, those of the first. Each is named by itself, so that no other is copied.
 fn last_row(n: usize, rows: [Row; 4]) -> [i8; 34]
     ensures { λ r. ⌜ r ≡ lastRow n rows ⌝ }
 {
-    let last = row_at(rows, before(n));
-    last.indices
+    if n <= 1 {
+        let row = rows[0];
+        return row.indices;
+    }
+    if n == 2 {
+        let row = rows[1];
+        return row.indices;
+    }
+    if n == 3 {
+        let row = rows[2];
+        return row.indices;
+    }
+    if n == 4 {
+        let row = rows[3];
+        return row.indices;
+    }
+    records::zeros()
 }
 
-// The phases of the last of n envelopes.
+// The phases of the last of n envelopes, in the same way.
 fn last_phases(n: usize, phases: [Phases; 4]) -> Phases
     ensures { λ r. ⌜ r ≡ lastPhases n phases ⌝ }
 {
-    phases_at(phases, before(n))
-}
-
-// The number before another, and 0 before 0.
-fn before(n: usize) -> usize
-    ensures { λ r. ⌜ r ≡ n - 1 ⌝ }
-{
-    if n == 0 {
-        return 0;
+    if n <= 1 {
+        return phases[0];
     }
-    n - 1
+    if n == 2 {
+        return phases[1];
+    }
+    if n == 3 {
+        return phases[2];
+    }
+    if n == 4 {
+        return phases[3];
+    }
+    extensions::no_phases()
 }
 
 // The phase records after a payload.

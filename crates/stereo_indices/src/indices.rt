@@ -5,7 +5,7 @@ ghost use lib.Dec.{eqb};
 ghost use lib.ListN.{length};
 ghost use Rattle.bits.specs.Reader.{pick};
 ghost use Rattle.bits.specs.InnerAnswers.{endedAnswer};
-ghost use Rattle.tables.specs.Tables.{Tables};
+ghost use Rattle.tables.specs.InnerLent.{StereoTables};
 ghost use Rattle.stereo_indices.specs.Indices.{indices};
 use crate::Index;
 use crate::Kind;
@@ -34,10 +34,9 @@ pub fn read_indices(
     mode: u32,
     time: u32,
     before: [i8; 34],
-    codes: &[u32],
-    lens: &[u8],
+    lookups: &[u16],
 ) -> ReadIndices
-    requires { ⌜ (end ≤ 8 * length (now s)) × Tables (now codes) (now lens) ⌝ }
+    requires { ⌜ (end ≤ 8 * length (now s)) × StereoTables (now lookups) ⌝ }
     ensures { λ r. ⌜ endedAnswer (r .ended) (r .indices) ≡ indices kind mode time before (now (s .entry)) at end ⌝ }
 {
     let count = kinds::bands(kind, mode);
@@ -47,7 +46,7 @@ pub fn read_indices(
     let mut i = 0;
     while i < count {
         let from = chosen(time, before[i], last);
-        match steps::read_index(s, place, end, kind, mode, time, from, codes, lens) {
+        match steps::read_index(s, place, end, kind, mode, time, from, lookups) {
             Index::To(x, next) => {
                 indices[i] = x;
                 last = x;

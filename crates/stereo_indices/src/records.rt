@@ -1,5 +1,6 @@
 // A kind's record.
 ghost use mathlib.Core.Path.{_≡_};
+ghost use mathlib.Core.Bool.{_&&_};
 ghost use Prim.Native.Nat.{_≤_};
 ghost use Rattle.stereo_indices.specs.Record.{zeros, none, agrees, soundMode, recordBands, soundIndex, soundFrom, soundRecord};
 use crate::Kind;
@@ -61,18 +62,27 @@ fn sound_index(kind: Kind, mode: u32, i: usize, x: i8) -> bool
     kinds::within(0, 0, x as i16)
 }
 
-// Whether every index is.
+// Whether an index is too, after others.
+fn still_sound(sound: bool, kind: Kind, mode: u32, i: usize, x: i8) -> bool
+    ensures { λ r. ⌜ r ≡ (sound && soundIndex kind mode i x) ⌝ }
+{
+    if !sound_index(kind, mode, i, x) {
+        return false;
+    }
+    sound
+}
+
+// Whether every index is; all are looked at, which is faster than to stop.
 fn sound_indices(kind: Kind, mode: u32, indices: [i8; 34]) -> bool
     ensures { λ r. ⌜ r ≡ soundFrom kind mode 0 indices ⌝ }
 {
+    let mut sound = true;
     let mut i = 0;
     while i < 34 {
-        if !sound_index(kind, mode, i, indices[i]) {
-            return false;
-        }
+        sound = still_sound(sound, kind, mode, i, indices[i]);
         i += 1;
     }
-    true
+    sound
 }
 
 // Whether a record is sound.

@@ -4,7 +4,7 @@ ghost use Prim.Native.Nat.{_*_, _≤_};
 ghost use lib.ListN.{length};
 ghost use Rattle.bits.specs.Reader.{refused};
 ghost use Rattle.bits.specs.InnerAnswers.{endedAnswer};
-ghost use Rattle.tables.specs.Tables.{Tables};
+ghost use Rattle.tables.specs.InnerLent.{StereoTables};
 ghost use Rattle.stereo_indices.specs.Rows.{noRow, noRows, allowed, row, rowsOf, rows};
 use crate::Kind;
 use crate::ReadRow;
@@ -59,10 +59,9 @@ pub fn read_row(
     kind: Kind,
     mode: u32,
     rec: Record,
-    codes: &[u32],
-    lens: &[u8],
+    lookups: &[u16],
 ) -> ReadRow
-    requires { ⌜ (end ≤ 8 * length (now s)) × Tables (now codes) (now lens) ⌝ }
+    requires { ⌜ (end ≤ 8 * length (now s)) × StereoTables (now lookups) ⌝ }
     ensures { λ r. ⌜ endedAnswer (r .ended) (r .row) ≡ row kind mode rec (now (s .entry)) at end ⌝ }
 {
     match bits::read_field(s, at, end, 1) {
@@ -71,7 +70,7 @@ pub fn read_row(
                 return refused_row(31, at);
             }
             let before = rec.indices;
-            let read = indices::read_indices(s, next, end, kind, mode, time, before, codes, lens);
+            let read = indices::read_indices(s, next, end, kind, mode, time, before, lookups);
             let ended = read.ended;
             let indices = read.indices;
             let row = Row { time, indices };
@@ -90,10 +89,9 @@ pub fn read_rows(
     mode: u32,
     rec: Record,
     n: usize,
-    codes: &[u32],
-    lens: &[u8],
+    lookups: &[u16],
 ) -> ReadRows
-    requires { ⌜ (end ≤ 8 * length (now s)) × Tables (now codes) (now lens) × (n ≤ 4) ⌝ }
+    requires { ⌜ (end ≤ 8 * length (now s)) × StereoTables (now lookups) × (n ≤ 4) ⌝ }
     ensures { λ r. ⌜ endedAnswer (r .ended) (r .rows) ≡ rowsOf kind mode rec n (now (s .entry)) at end ⌝ }
 {
     let mut rows = no_rows();
@@ -101,7 +99,7 @@ pub fn read_rows(
     let mut place = at;
     let mut k = 0;
     while k < n {
-        let read = read_row(s, place, end, kind, mode, last, codes, lens);
+        let read = read_row(s, place, end, kind, mode, last, lookups);
         let ended = read.ended;
         let row = read.row;
         match ended {
@@ -129,14 +127,13 @@ pub fn read_kind(
     mode: u32,
     rec: Record,
     n: usize,
-    codes: &[u32],
-    lens: &[u8],
+    lookups: &[u16],
 ) -> ReadRows
-    requires { ⌜ (end ≤ 8 * length (now s)) × Tables (now codes) (now lens) × (n ≤ 4) ⌝ }
+    requires { ⌜ (end ≤ 8 * length (now s)) × StereoTables (now lookups) × (n ≤ 4) ⌝ }
     ensures { λ r. ⌜ endedAnswer (r .ended) (r .rows) ≡ rows kind on mode rec n (now (s .entry)) at end ⌝ }
 {
     if on {
-        return read_rows(s, at, end, kind, mode, rec, n, codes, lens);
+        return read_rows(s, at, end, kind, mode, rec, n, lookups);
     }
     let ended = Ended::At(at);
     let rows = no_rows();

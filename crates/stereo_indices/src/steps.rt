@@ -3,9 +3,7 @@ ghost use mathlib.Core.Path.{_≡_};
 ghost use Prim.Native.Nat.{_*_, _≤_};
 ghost use lib.ListN.{length};
 ghost use lib.IntN.{pos, natAbs};
-ghost use Rattle.bits.specs.InnerAnswers.{fieldAnswer};
-ghost use Rattle.tables.specs.Tables.{Tables, wordOf};
-ghost use Rattle.tables.specs.GeneratedNames.{tableAt};
+ghost use Rattle.tables.specs.InnerLent.{StereoTables};
 ghost use Rattle.stereo_indices.specs.Difference.{middle, added};
 ghost use Rattle.stereo_indices.specs.Indices.{indexFrom};
 ghost use Rattle.stereo_indices.specs.InnerAnswers.{indexAnswer};
@@ -41,25 +39,6 @@ pub fn difference_table(kind: Kind, mode: u32, time: u32) -> usize
         return first + 1;
     }
     first
-}
-
-// The word of a difference, by the number of its table.
-fn table_word(s: &[u8], at: usize, end: usize, table: usize, codes: &[u32], lens: &[u8]) -> Field
-    requires { ⌜ (end ≤ 8 * length (now s)) × Tables (now codes) (now lens) × (12 ≤ table) × (table ≤ 21) ⌝ }
-    ensures { λ r. ⌜ fieldAnswer r ≡ wordOf (tableAt table) (now (s .entry)) at end ⌝ }
-{
-    match table {
-        12 => tables::generated_readers::level_default_frequency_word(s, at, end, codes, lens),
-        13 => tables::generated_readers::level_default_time_word(s, at, end, codes, lens),
-        14 => tables::generated_readers::level_fine_frequency_word(s, at, end, codes, lens),
-        15 => tables::generated_readers::level_fine_time_word(s, at, end, codes, lens),
-        16 => tables::generated_readers::coherence_frequency_word(s, at, end, codes, lens),
-        17 => tables::generated_readers::coherence_time_word(s, at, end, codes, lens),
-        18 => tables::generated_readers::phase_frequency_word(s, at, end, codes, lens),
-        19 => tables::generated_readers::phase_time_word(s, at, end, codes, lens),
-        20 => tables::generated_readers::overall_phase_frequency_word(s, at, end, codes, lens),
-        _ => tables::generated_readers::overall_phase_time_word(s, at, end, codes, lens),
-    }
 }
 
 // The entry that is no difference.
@@ -101,14 +80,13 @@ pub fn read_index(
     mode: u32,
     time: u32,
     from: i8,
-    codes: &[u32],
-    lens: &[u8],
+    lookups: &[u16],
 ) -> Index
-    requires { ⌜ (end ≤ 8 * length (now s)) × Tables (now codes) (now lens) ⌝ }
+    requires { ⌜ (end ≤ 8 * length (now s)) × StereoTables (now lookups) ⌝ }
     ensures { λ r. ⌜ indexAnswer r ≡ indexFrom kind mode time from (now (s .entry)) at end ⌝ }
 {
     let table = difference_table(kind, mode, time);
-    match table_word(s, at, end, table, codes, lens) {
+    match tables::read_word(s, at, end, lookups, table) {
         Field::Got(entry, next) => {
             let x = added(kind, mode, from, entry);
             if kinds::within(kinds::least(kind, mode), kinds::most(kind, mode), x) {

@@ -99,11 +99,10 @@ fn taken(state: State, contents: Contents, bits: usize) -> Reading
 pub fn read_bytes(state: State, s: &[u8]) -> Reading
     ensures { λ r. ⌜ r ≡ readBytes state (now (s .entry)) ⌝ }
 {
-    let codes = tables::codes();
-    let lens = tables::lens();
+    let lookups = tables::stereo_lookups();
     let end = 8 * bits::looked_at(s.len(), 1025);
     let before = read_from(state);
-    let read = payloads::read_payload(s, end, before, &codes, &lens);
+    let read = payloads::read_payload(s, end, before, &lookups);
     let ended = read.ended;
     match ended {
         Ended::At(bits) => {

@@ -4,7 +4,7 @@ ghost use mathlib.Core.List.{[], _++_};
 ghost use lib.Dec.{eqb};
 ghost use Rattle.bits.specs.Reader.{pick};
 ghost use mathlib.Core.Path.{_≡_};
-ghost use Rattle.tables.specs.Tables.{Tables};
+ghost use Rattle.tables.specs.InnerLent.{StereoWords};
 ghost use Rattle.stereo_indices.specs.declared.Kind.the-variants.{Ipd, Opd};
 ghost use Rattle.stereo_writer.specs.InnerWrote.{Wrote, Room};
 ghost use Rattle.stereo_writer.specs.Spelling.{bitField, spellRow, spellAllPhases, spellBody, spellPart, spellExtension};
@@ -26,17 +26,16 @@ fn put_phases(
     ipd: Record,
     opd: Record,
     phases: Phases,
-    codes: &[u32],
-    lens: &[u8],
+    words: &[u32],
 ) -> usize
-    requires { ⌜ Room 1420 at (now out) × Tables (now codes) (now lens) ⌝ }
+    requires { ⌜ Room 1420 at (now out) × StereoWords (now words) ⌝ }
     ensures { λ r. ⌜ Wrote 1362 (now (out .entry)) at (spellRow Ipd mode ipd (phases .ipd) ++ spellRow Opd mode opd (phases .opd)) r
         (now (out .exit)) ⌝ }
 {
     let first = phases.ipd;
-    let place = put_row(out, at, Kind::Ipd, mode, ipd, first, codes, lens);
+    let place = put_row(out, at, Kind::Ipd, mode, ipd, first, words);
     let second = phases.opd;
-    put_row(out, place, Kind::Opd, mode, opd, second, codes, lens)
+    put_row(out, place, Kind::Opd, mode, opd, second, words)
 }
 
 // The phases of n envelopes, each after those before it; where enable_ipdopd is 0 there are none.
@@ -48,10 +47,9 @@ fn put_all_phases(
     records: PhaseRecords,
     n: usize,
     phases: [Phases; 4],
-    codes: &[u32],
-    lens: &[u8],
+    words: &[u32],
 ) -> usize
-    requires { ⌜ Room 5700 at (now out) × Tables (now codes) (now lens) ⌝ }
+    requires { ⌜ Room 5700 at (now out) × StereoWords (now words) ⌝ }
     ensures { λ r. ⌜ Wrote 5448 (now (out .entry)) at (spellAllPhases on mode (records .ipd) (records .opd) n phases) r
         (now (out .exit)) ⌝ }
 {
@@ -67,7 +65,7 @@ fn put_all_phases(
             return place;
         }
         let p = phases[k];
-        place = put_phases(out, place, mode, ipd, opd, p, codes, lens);
+        place = put_phases(out, place, mode, ipd, opd, p, words);
         let first = p.ipd;
         let xs = first.indices;
         ipd = Record { mode, indices: xs };
@@ -87,26 +85,15 @@ fn put_body(
     records: PhaseRecords,
     n: usize,
     body: Body,
-    codes: &[u32],
-    lens: &[u8],
+    words: &[u32],
 ) -> usize
-    requires { ⌜ Room 5800 at (now out) × Tables (now codes) (now lens) ⌝ }
+    requires { ⌜ Room 5800 at (now out) × StereoWords (now words) ⌝ }
     ensures { λ r. ⌜ Wrote 5452 (now (out .entry)) at (spellBody mode (records .ipd) (records .opd) n body) r (now (out .exit)) ⌝ }
 {
     let after_id = put_field(out, at, 0, 2);
     let after_flag = put_field(out, after_id, body.phase, 1);
     let phases = body.phases;
-    let after_phases = put_all_phases(
-        out,
-        after_flag,
-        body.phase,
-        mode,
-        records,
-        n,
-        phases,
-        codes,
-        lens,
-    );
+    let after_phases = put_all_phases(out, after_flag, body.phase, mode, records, n, phases, words);
     put_field(out, after_phases, 0, 1)
 }
 
@@ -129,10 +116,9 @@ fn put_announced(
     n: usize,
     empty: bool,
     part: Part,
-    codes: &[u32],
-    lens: &[u8],
+    words: &[u32],
 ) -> usize
-    requires { ⌜ Room 5840 at (now out) × Tables (now codes) (now lens) ⌝ }
+    requires { ⌜ Room 5840 at (now out) × StereoWords (now words) ⌝ }
     ensures { λ r. ⌜ Wrote 5459 (now (out .entry)) at (pick empty [] (spellPart mode (records .ipd) (records .opd) n part)) r
         (now (out .exit)) ⌝ }
 {
@@ -140,7 +126,7 @@ fn put_announced(
         return at;
     }
     let body = part.body;
-    let after_body = put_body(out, at, mode, records, n, body, codes, lens);
+    let after_body = put_body(out, at, mode, records, n, body, words);
     put_field(out, after_body, part.value, at_most_seven(part.count))
 }
 
@@ -174,10 +160,9 @@ pub fn put_extension(
     records: PhaseRecords,
     n: usize,
     x: Extension,
-    codes: &[u32],
-    lens: &[u8],
+    words: &[u32],
 ) -> usize
-    requires { ⌜ Room 5900 at (now out) × Tables (now codes) (now lens) ⌝ }
+    requires { ⌜ Room 5900 at (now out) × StereoWords (now words) ⌝ }
     ensures { λ r. ⌜ Wrote 5471 (now (out .entry)) at (spellExtension on mode (records .ipd) (records .opd) n x) r (now (out .exit)) ⌝ }
 {
     if !on {
@@ -194,7 +179,6 @@ pub fn put_extension(
         n,
         is_empty(x.size, x.esc),
         part,
-        codes,
-        lens,
+        words,
     )
 }

@@ -1,11 +1,12 @@
 // Rows of indices, put into the scratch array as words of their differences.
-ghost use Prim.Native.Nat.{_<_};
+ghost use Prim.Native.Nat.{_<_, _≤_};
 ghost use lib.IntN.{pos};
 ghost use mathlib.Core.Path.{_≡_};
 ghost use mathlib.Core.List.{[]};
 ghost use lib.ListN.{take, getD};
 ghost use Rattle.bits.specs.Spelled.{spellEach};
-ghost use Rattle.tables.specs.Tables.{Tables, spellWord};
+ghost use Rattle.tables.specs.Tables.{spellWord};
+ghost use Rattle.tables.specs.InnerLent.{StereoWords};
 ghost use Rattle.tables.specs.GeneratedNames.{tableAt};
 ghost use Rattle.stereo_indices.specs.Kind.{bands};
 ghost use Rattle.stereo_indices.specs.Indices.{reference};
@@ -33,18 +34,11 @@ fn entry_to(kind: Kind, mode: u32, x: i8, y: i8) -> u32
 }
 
 // The word of an entry.
-fn put_word(
-    out: &mut [u8],
-    at: usize,
-    table: usize,
-    entry: u32,
-    codes: &[u32],
-    lens: &[u8],
-) -> usize
-    requires { ⌜ Room 20 at (now out) × Tables (now codes) (now lens) ⌝ }
+fn put_word(out: &mut [u8], at: usize, table: usize, entry: u32, words: &[u32]) -> usize
+    requires { ⌜ Room 20 at (now out) × StereoWords (now words) × (12 ≤ table) × (table < 22) ⌝ }
     ensures { λ r. ⌜ Wrote 20 (now (out .entry)) at (spellWord (tableAt table) entry) r (now (out .exit)) ⌝ }
 {
-    let word = tables::entry_word(table, entry as usize, codes, lens);
+    let word = tables::entry_word(words, table, entry as usize);
     put_field(out, at, word.code, word.len as usize)
 }
 
@@ -71,10 +65,9 @@ fn put_indices(
     time: u32,
     before: [i8; 34],
     xs: [i8; 34],
-    codes: &[u32],
-    lens: &[u8],
+    words: &[u32],
 ) -> usize
-    requires { ⌜ Room 700 at (now out) × Tables (now codes) (now lens) ⌝ }
+    requires { ⌜ Room 700 at (now out) × StereoWords (now words) ⌝ }
     ensures { λ r. ⌜ Wrote 680 (now (out .entry)) at (spellEach (spellIndex kind mode time before) [] (take (bands kind mode) xs)) r
         (now (out .exit)) ⌝ }
 {
@@ -84,7 +77,7 @@ fn put_indices(
     let mut i = 0;
     while i < count {
         let entry = entry_at(kind, mode, time, before, xs, i);
-        place = put_word(out, place, table, entry, codes, lens);
+        place = put_word(out, place, table, entry, words);
         i += 1;
     }
     place
@@ -98,16 +91,15 @@ pub fn put_row(
     mode: u32,
     rec: Record,
     row: Row,
-    codes: &[u32],
-    lens: &[u8],
+    words: &[u32],
 ) -> usize
-    requires { ⌜ Room 720 at (now out) × Tables (now codes) (now lens) ⌝ }
+    requires { ⌜ Room 720 at (now out) × StereoWords (now words) ⌝ }
     ensures { λ r. ⌜ Wrote 681 (now (out .entry)) at (spellRow kind mode rec row) r (now (out .exit)) ⌝ }
 {
     let place = put_field(out, at, row.time, 1);
     let before = rec.indices;
     let xs = row.indices;
-    put_indices(out, place, kind, mode, row.time, before, xs, codes, lens)
+    put_indices(out, place, kind, mode, row.time, before, xs, words)
 }
 
 // The rows of a kind in n envelopes, each after those before it; not enabled, it has none.
@@ -120,10 +112,9 @@ pub fn put_rows(
     rec: Record,
     n: usize,
     rows: [Row; 4],
-    codes: &[u32],
-    lens: &[u8],
+    words: &[u32],
 ) -> usize
-    requires { ⌜ Room 2800 at (now out) × Tables (now codes) (now lens) ⌝ }
+    requires { ⌜ Room 2800 at (now out) × StereoWords (now words) ⌝ }
     ensures { λ r. ⌜ Wrote 2724 (now (out .entry)) at (spellRows kind on mode rec n rows) r (now (out .exit)) ⌝ }
 {
     if !on {
@@ -137,7 +128,7 @@ pub fn put_rows(
             return place;
         }
         let row = rows[k];
-        place = put_row(out, place, kind, mode, last, row, codes, lens);
+        place = put_row(out, place, kind, mode, last, row, words);
         let indices = row.indices;
         last = Record { mode, indices };
         k += 1;

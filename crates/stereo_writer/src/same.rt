@@ -15,18 +15,27 @@ use stereo::Part;
 use stereo::Phases;
 use stereo_indices::Row;
 
-// Whether 34 indices are the same.
+// Whether an index is the same too, after others.
+fn is_still_same(same: bool, x: i8, y: i8) -> bool
+    ensures { λ r. ⌜ r ≡ (sameIndex x y && same) ⌝ }
+{
+    if x != y {
+        return false;
+    }
+    same
+}
+
+// Whether 34 indices are the same; all are looked at, which is faster than to stop.
 fn same_indices(xs: [i8; 34], ys: [i8; 34]) -> bool
     ensures { λ r. ⌜ r ≡ sameList sameIndex xs ys ⌝ }
 {
+    let mut same = true;
     let mut i = 0;
     while i < 34 {
-        if xs[i] != ys[i] {
-            return false;
-        }
+        same = is_still_same(same, xs[i], ys[i]);
         i += 1;
     }
-    true
+    same
 }
 
 // Whether two rows are the same.

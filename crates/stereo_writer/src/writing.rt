@@ -1,12 +1,14 @@
 // The stereo writer.
 ghost use mathlib.Core.Path.{_≡_};
+ghost use mathlib.Core.Bool.{true};
 ghost use Prim.Native.Nat.{_*_, _≤_};
 ghost use lib.ListN.{length, replicate};
 ghost use Rattle.bits.specs.Pieces.{total};
 ghost use Rattle.bits.specs.Packed.{putAll, bytesFor};
 ghost use Rattle.bits.specs.Writable.{matches};
-ghost use Rattle.tables.specs.Tables.{Tables};
+ghost use Rattle.stereo.specs.State.{sound};
 ghost use Rattle.stereo.specs.Payload.{payload};
+ghost use Rattle.stereo_writer.specs.InnerWrote.{Wrote, Room};
 ghost use Rattle.stereo_writer.specs.Spelling.{spelling};
 ghost use Rattle.stereo_writer.specs.Same.{sameContents};
 ghost use Rattle.stereo_writer.specs.Writing.{canWrite, unwritten, WritePromise};
@@ -34,18 +36,12 @@ fn refused(number: u8, state: State) -> Written
 }
 
 // Whether what was read from a scratch array are these contents.
-fn is_read_back(
-    scratch: &[u8],
-    bits: usize,
-    state: State,
-    contents: Contents,
-    codes: &[u32],
-    lens: &[u8],
-) -> bool
-    requires { ⌜ (bits ≤ 8 * length (now scratch)) × Tables (now codes) (now lens) ⌝ }
+fn is_read_back(scratch: &[u8], bits: usize, state: State, contents: Contents) -> bool
+    requires { ⌜ bits ≤ 8 * length (now scratch) ⌝ }
     ensures { λ r. ⌜ r ≡ matches sameContents (payload state (now (scratch .entry)) 0 bits) contents ⌝ }
 {
-    let read = payloads::read_payload(scratch, bits, state, codes, lens);
+    let lookups = tables::stereo_lookups();
+    let read = payloads::read_payload(scratch, bits, state, &lookups);
     let ended = read.ended;
     let back = read.contents;
     match ended {
@@ -62,26 +58,31 @@ fn bytes_for(bits: usize) -> usize
     (bits + 7) / 8
 }
 
+// Contents spelled from a state into a scratch array, by words that are made for it alone.
+fn put_spelled(scratch: &mut [u8], state: State, contents: Contents) -> usize
+    requires { ⌜ Room 12288 0 (now scratch) ⌝ }
+    ensures { λ r. ⌜ Wrote 10952 (now (scratch .entry)) 0 (spelling state contents) r (now (scratch .exit)) ⌝ }
+{
+    let words = tables::stereo_words();
+    put_contents(scratch, state, contents, &words)
+}
+
 // Contents spelled from a state into a scratch array of zeros, and read back.
 fn spell(scratch: &mut [u8], state: State, contents: Contents) -> Spelled
     requires { ⌜ now scratch ≡ replicate 1536 0 ⌝ }
     ensures { λ r. ⌜ (r .bits ≡ total (spelling state contents)) × (r .bits ≤ 10952) × (r .can ≡ canWrite state contents)
         × (now (scratch .exit) ≡ putAll (replicate 1536 0) 0 (spelling state contents)) ⌝ }
 {
-    let codes = tables::codes();
-    let lens = tables::lens();
-    let bits = put_contents(scratch, state, contents, &codes, &lens);
-    let can = is_read_back(scratch, bits, state, contents, &codes, &lens);
+    let bits = put_spelled(scratch, state, contents);
+    let can = is_read_back(scratch, bits, state, contents);
     Spelled { bits, can }
 }
 
-// Contents written from a state into a lent buffer: the refusal, or 0, how many bits were written, and the next state.
-pub fn write(out: &mut [u8], state: State, contents: Contents) -> Written
+// Contents written from a sound state into a lent buffer.
+pub fn write_sound(out: &mut [u8], state: State, contents: Contents) -> Written
+    requires { ⌜ sound state ≡ true ⌝ }
     ensures { λ r. ⌜ WritePromise (now (out .entry)) state contents r (now (out .exit)) ⌝ }
 {
-    if !states::is_sound(state) {
-        return refused(4, state);
-    }
     let before = stereo_reader::read_from(state);
     let mut scratch = [0u8; 1536];
     let spelled = spell(&mut scratch, before, contents);
@@ -103,4 +104,14 @@ pub fn write(out: &mut [u8], state: State, contents: Contents) -> Written
         bits,
         state: next,
     }
+}
+
+// Contents written from a state into a lent buffer: the refusal, or 0, how many bits were written, and the next state.
+pub fn write(out: &mut [u8], state: State, contents: Contents) -> Written
+    ensures { λ r. ⌜ WritePromise (now (out .entry)) state contents r (now (out .exit)) ⌝ }
+{
+    if !states::is_sound(state) {
+        return refused(4, state);
+    }
+    write_sound(out, state, contents)
 }

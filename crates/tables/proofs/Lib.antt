@@ -3,3 +3,4 @@ pub mod Rules
 pub mod PlaceLaws
 pub mod WordNear
 pub mod TableMoves
+pub mod LentLaws

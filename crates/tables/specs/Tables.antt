@@ -1,6 +1,5 @@
 -- A table is a run of entries of the list of all words, and of the list of all lengths.
 use Prim.Native.Nat.{ℕ}
-use mathlib.Core.Path.{_≡_}
 use mathlib.Core.List.{List, [], _∷_}
 use mathlib.Core.Bool.{Bool}
 use lib.ListN.{take, drop, getD}
@@ -34,10 +33,6 @@ wordOf t = word (codesOf t) (lensOf t)
 -- the spelling of an entry: its word; an entry that there is not has no bits
 abbrev pub spellWord : Table → ℕ → List Piece
 spellWord t k = piece (getD (codesOf t) k 0) (getD (lensOf t) k 0) ∷ []
-
--- what is lent to every reader of words
-abbrev pub Tables : List ℕ → List ℕ → Type 0
-Tables codes lens = (codes ≡ allCodes) × (lens ≡ allLens)
 
 -- the rule of a table: the prefix rule, and the Kraft sum 1
 abbrev pub ruled : Table → Bool

@@ -1,17 +1,25 @@
-// The 22 code tables. Whoever reads words makes them once, by `codes` and `lens`, and lends them to every reader below.
+// The 22 code tables. Whoever reads words makes the lookups of his half once, and lends them to every reader below; whoever writes them
+// makes their words.
 ghost use mathlib.Core.Path.{_≡_};
-ghost use Prim.Native.Nat.{_+_, _*_, _≤_};
+ghost use mathlib.Core.List.{[], _∷_};
+ghost use Prim.Native.Nat.{_*_, _≤_, _<_};
 ghost use lib.ListN.{length, getD};
 ghost use Rattle.bits.specs.InnerAnswers.{fieldAnswer};
-ghost use Rattle.tables.specs.GeneratedWords.{allCodes, allLens};
-ghost use Rattle.tables.specs.Tables.{Tables, table, wordOf, spellWord};
-ghost use Rattle.tables.specs.GeneratedNames.{tableAt};
 ghost use Rattle.bits.specs.Pieces.{piece};
-ghost use mathlib.Core.List.{[], _∷_};
+ghost use Rattle.tables.specs.InnerGenerated.{channelLookups, stereoLookups, stereoWords};
+ghost use Rattle.tables.specs.GeneratedNames.{tableAt};
+ghost use Rattle.tables.specs.InnerLent.{lookupsFor, partOf, firstBits, lookupAt, Lies};
+ghost use Rattle.tables.specs.Tables.{wordOf, spellWord};
 use bits::Field;
 
-pub mod generated_readers;
-mod generated_words;
+mod generated_lent;
+
+// Where the lookup of a table stands among those that are lent, and how many bits choose its first element.
+pub struct Lookup {
+    pub first: usize,
+    pub last: usize,
+    pub bits: usize,
+}
 
 // A word, as a number of so many bits.
 pub struct Word {
@@ -19,73 +27,92 @@ pub struct Word {
     pub len: u8,
 }
 
-// The words of all tables.
-pub fn codes() -> [u32; 1604]
-    ensures { λ r. ⌜ r ≡ allCodes ⌝ }
+// The lookups of the tables of channel streams.
+pub fn channel_lookups() -> [u16; 2749]
+    ensures { λ r. ⌜ r ≡ channelLookups ⌝ }
 {
-    generated_words::CODES
+    generated_lent::CHANNEL_LOOKUPS
 }
 
-// The lengths of all words.
-pub fn lens() -> [u8; 1604]
-    ensures { λ r. ⌜ r ≡ allLens ⌝ }
+// The lookups of the tables of stereo payloads.
+pub fn stereo_lookups() -> [u16; 1469]
+    ensures { λ r. ⌜ r ≡ stereoLookups ⌝ }
 {
-    generated_words::LENS
+    generated_lent::STEREO_LOOKUPS
 }
 
-// The word of a table that stands from an entry on, so many entries of it.
-fn table_word(
-    s: &[u8],
-    at: usize,
-    end: usize,
-    codes: &[u32],
-    lens: &[u8],
-    first: usize,
-    count: usize,
-) -> Field
-    requires { ⌜ (end ≤ 8 * length (now s)) × Tables (now codes) (now lens) × (first + count ≤ 1604) ⌝ }
-    ensures { λ r. ⌜ fieldAnswer r ≡ wordOf (table first count) (now (s .entry)) at end ⌝ }
+// The words of the tables of stereo payloads.
+pub fn stereo_words() -> [u32; 253]
+    ensures { λ r. ⌜ r ≡ stereoWords ⌝ }
 {
-    let last = first + count;
-    words::read_word(s, at, end, &codes[first..last], &lens[first..last])
+    generated_lent::STEREO_WORDS
 }
 
-// An element of a slice, or 0 past its end.
-fn element(xs: &[usize], i: usize) -> usize
-    ensures { λ r. ⌜ r ≡ getD (now (xs .entry)) i 0 ⌝ }
+// Which part of what is lent is a table's.
+fn part_of(t: usize) -> usize
+    ensures { λ r. ⌜ r ≡ partOf t ⌝ }
 {
-    if i < xs.len() {
-        return xs[i];
+    if t < 12 {
+        return t;
     }
-    0
+    t - 12
 }
 
-// The first entry of a table, by its number.
-fn first_of(t: usize) -> usize
-    ensures { λ r. ⌜ r ≡ tableAt t .first ⌝ }
+// How many bits choose the first element of a table's lookup.
+fn first_bits(t: usize) -> usize
+    ensures { λ r. ⌜ r ≡ firstBits t ⌝ }
 {
-    element(&generated_words::FIRSTS, t)
+    if t < 12 {
+        return 7;
+    }
+    6
 }
 
-// How many entries a table has, by its number.
-fn count_of(t: usize) -> usize
-    ensures { λ r. ⌜ r ≡ tableAt t .count ⌝ }
+// A place that is lent.
+fn place_at(lookups: &[u16], i: usize) -> usize
+    requires { ⌜ i < length (now lookups) ⌝ }
+    ensures { λ r. ⌜ r ≡ getD (now (lookups .entry)) i 0 ⌝ }
 {
-    element(&generated_words::COUNTS, t)
+    lookups[i] as usize
 }
 
-// The word of an entry of a table, by the table's number; an entry that there is not has no bits.
-pub fn entry_word(t: usize, entry: usize, codes: &[u32], lens: &[u8]) -> Word
-    requires { ⌜ Tables (now codes) (now lens) ⌝ }
+// Where the lookup of a table stands, by its number.
+pub fn lookup_of(lookups: &[u16], t: usize) -> Lookup
+    requires { ⌜ (now lookups ≡ lookupsFor t) × (t < 22) ⌝ }
+    ensures { λ r. ⌜ (r ≡ lookupAt t) × Lies (now (lookups .entry)) r ⌝ }
+{
+    let part = part_of(t);
+    Lookup {
+        first: place_at(lookups, part),
+        last: place_at(lookups, part + 1),
+        bits: first_bits(t),
+    }
+}
+
+// The entry of the word at a place, of a table by its number.
+pub fn read_word(s: &[u8], at: usize, end: usize, lookups: &[u16], t: usize) -> Field
+    requires { ⌜ (end ≤ 8 * length (now s)) × (now lookups ≡ lookupsFor t) × (t < 22) ⌝ }
+    ensures { λ r. ⌜ fieldAnswer r ≡ wordOf (tableAt t) (now (s .entry)) at end ⌝ }
+{
+    let lookup = lookup_of(lookups, t);
+    let first = lookup.first;
+    let last = lookup.last;
+    words::lookup::read_word(s, at, end, &lookups[first..last], lookup.bits)
+}
+
+// The word of an entry of a stereo table, by the table's number; an entry that there is not has no bits.
+pub fn entry_word(words: &[u32], t: usize, entry: usize) -> Word
+    requires { ⌜ (now words ≡ stereoWords) × (12 ≤ t) × (t < 22) ⌝ }
     ensures { λ r. ⌜ (piece (r .code) (r .len) ∷ [] ≡ spellWord (tableAt t) entry) × (r .len ≤ 20) ⌝ }
 {
-    let first = first_of(t);
-    let count = count_of(t);
-    if count <= entry {
+    let first = words[t - 12] as usize;
+    let last = words[t - 11] as usize;
+    if last - first <= entry {
         return Word { code: 0, len: 0 };
     }
+    let word = words[first + entry];
     Word {
-        code: codes[first + entry],
-        len: lens[first + entry],
+        code: word / 32,
+        len: (word % 32) as u8,
     }
 }

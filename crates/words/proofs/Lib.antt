@@ -2,7 +2,6 @@ pub mod CountLaws
 pub mod PrefixLaws
 pub mod FitLaws
 pub mod ScanAnswers
-pub mod ScanLaws
 pub mod WordLaws
 pub mod CompleteLaws
 pub mod EscapeLaws
@@ -10,3 +9,5 @@ pub mod Examples
 pub mod WordNumbered
 pub mod WordMoves
 pub mod EscapeNear
+pub mod LookupLaws
+pub mod LookupSteps

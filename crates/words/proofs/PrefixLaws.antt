@@ -5,6 +5,7 @@ use Prim.Native.Nat.{ℕ, zero, suc, _+_, _-_, _*_, _/_, _^_, _<_, _≤_}
 use mathlib.Core.Path.{_≡_, refl, _∙_, ap}
 use mathlib.Core.Bool.{Bool, true, false, not, _&&_, _||_}
 use mathlib.Core.List.{List, [], _∷_}
+use mathlib.Core.Logic.{_⊎_, inl, inr}
 use native.Mathlib.Omega.{arith}
 use native.Mathlib.Decide.{decLe, ℕ-discrete}
 use native.Mathlib.Nat.{not-suc-le-zero}
@@ -139,6 +140,12 @@ apart-at c l (d ∷ ds) [] a k h g = absurd (not-suc-le-zero g)
 apart-at c l (d ∷ ds) (m ∷ ms) a zero h g = and-left (not (isPrefix c l d m || isPrefix d m c l)) (apart c l ds ms) a
 apart-at c l (d ∷ ds) (m ∷ ms) a (suc k) h g =
     apart-at c l ds ms (and-right (not (isPrefix c l d m || isPrefix d m c l)) (apart c l ds ms) a) k (omega arith) (omega arith)
+
+-- a word is comparable with none of the words that it is apart from
+pub apart-clash : (c l : ℕ) (ds ms : List ℕ) → T (apart c l ds ms) → (k : ℕ) → k < length ds → k < length ms
+    → ((isPrefix c l (getD ds k 0) (getD ms k 0) ≡ true) ⊎ (isPrefix (getD ds k 0) (getD ms k 0) c l ≡ true)) → ⊥
+apart-clash c l ds ms a k h g (inl e) = neither-l _ (isPrefix (getD ds k 0) (getD ms k 0) c l) (apart-at c l ds ms a k h g) e
+apart-clash c l ds ms a k h g (inr e) = neither-r (isPrefix c l (getD ds k 0) (getD ms k 0)) _ (apart-at c l ds ms a k h g) e
 
 pub prefix-rule : (cs ls : List ℕ) → T (prefixFree cs ls) → (i j : ℕ) → i < length cs → i < length ls → j < length cs → j < length ls
     → isPrefix (getD cs i 0) (getD ls i 0) (getD cs j 0) (getD ls j 0) ≡ true → i ≡ j

@@ -74,7 +74,7 @@ never-11 M cs ls e z f k s at end p q =
     covered M (getD cs (w .0) 0) (getD ls (w .0) 0) s at end (sized-at M cs ls z (w .0) (w .1) (w .2)) (w .3) (n .0) (n .1)
 
 -- two words that stand at the same place of the same bits
-same-bits : (c l d m : ℕ) (s : List ℕ) (at : ℕ) → l ≤ m → bitsFrom s at l ≡ c → bitsFrom s at m ≡ d → isPrefix c l d m ≡ true
+pub same-bits : (c l d m : ℕ) (s : List ℕ) (at : ℕ) → l ≤ m → bitsFrom s at l ≡ c → bitsFrom s at m ≡ d → isPrefix c l d m ≡ true
 same-bits c l d m s at h p q =
     let z : d / 2 ^ (m - l) ≡ c = rw (← q) (bitsFrom-prefix s at l m h ∙ p) in
     simp (le-leb _ _ h, eq-eqb _ _ z)
@@ -171,6 +171,14 @@ word-fit cs ls s at end k next e =
     let w = scan-got cs ls 0 false s at end k next e in
     let j : k ≡ w .0 = omega arith in
     rw j (w .1, w .2, fit-parts (getD cs (w .0) 0) (getD ls (w .0) 0) s at end (w .4) .1, w .5)
+
+-- and its word is no longer than what is left
+pub word-room : (cs ls s : List ℕ) (at end k next : ℕ) → word cs ls s at end ≡ got k next → getD ls k 0 ≤ end - at
+unfolding word
+word-room cs ls s at end k next e =
+    let w = scan-got cs ls 0 false s at end k next e in
+    let j : k ≡ w .0 = omega arith in
+    rw j (fit-parts (getD cs (w .0) 0) (getD ls (w .0) 0) s at end (w .4) .0)
 
 -- an incomplete table has bits that give 11: of some m bits no word is a prefix, and they are too many to be the start of one
 pub some-11 : (M : ℕ) (cs ls : List ℕ) → length cs ≡ length ls → T (sized M cs ls) → kraft M ls < 2 ^ M

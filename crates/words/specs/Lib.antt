@@ -1,5 +1,4 @@
 pub mod Words
 pub mod Table
-pub mod InnerTable
-pub mod InnerComparison
+pub mod InnerLookup
 pub mod Escape

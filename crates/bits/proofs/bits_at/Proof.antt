@@ -1,4 +1,4 @@
--- Twenty bits from any place lie in four bytes; a shift and a remainder cut them out.
+-- Twenty-four bits from any place lie in four bytes; a shift and a remainder cut them out.
 use native.Mathlib.Omega.{arith}
 use lib.Pow.{pow-pos}
 use Rattle.bits.proofs.BitLaws.{bitsFrom-below}
@@ -18,7 +18,7 @@ cast-result c =
     let x = a .args in
     let e = word-run (x .s .now) (x .at) (x .n) (a .pre) (c .before .before .before .byte .ensures) (c .before .before .byte2 .ensures)
     (c .before .byte3 .ensures) (c .byte4 .ensures) in
-    omega (arith, bitsFrom-below (x .s .now) (x .at) (x .n) 20 (a .pre))
+    omega (arith, bitsFrom-below (x .s .now) (x .at) (x .n) 24 (a .pre))
 
 returns : tie.Need-returns
 returns c =

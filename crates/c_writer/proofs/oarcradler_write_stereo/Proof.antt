@@ -14,7 +14,7 @@ use Rattle.c_layout.specs.StateBytes.{stateBytes, soundBytes, stateAt}
 use Rattle.c_layout.specs.ContentsBytes.{contentsAt}
 use Rattle.bits.specs.Calls.{firstNumber}
 use Rattle.c_writer.specs.WriteStereo.{Call, writeTests, stereoWriting}
-use Rattle.c_layout.proofs.StateLaws.{sound-long}
+use Rattle.c_layout.proofs.StateLaws.{sound-long, sound-parts}
 use Rattle.c_writer.proofs.Passed.{write-passed}
 use Rattle.c_writer.proofs.WriteLaws.{call-refused, written, contents-refused, accepted}
 use borrow.Author.Needs.{needs}
@@ -35,7 +35,7 @@ passed : (c : tie.Else1)
     (soundBytes (a .state .now) ≡ true) × (582 ≤ length (a .contents .now)) × (4 ≤ length (a .answer .now))
 passed c = write-passed _ _ _ (unrefused c)
 
-abbrev tested : tie.After-write → tie.Else1
+abbrev tested : tie.After-write-sound → tie.Else1
 tested w = w .before .before .before .before .before
 
 abbrev given : tie.Start → Call
@@ -44,8 +44,8 @@ given c =
     record { state = a .state .now; contents = a .contents .now; out = a .out .now; answer = a .answer .now }
 
 -- the writer's answer, and the output
-wrote : (w : tie.After-write)
-    → (w .write .result ≡ stereoWriting (given (start (tested w)))) × (w .write .last .0 ≡ written (given (start (tested w))))
+wrote : (w : tie.After-write-sound)
+    → (w .write-sound .result ≡ stereoWriting (given (start (tested w)))) × (w .write-sound .last .0 ≡ written (given (start (tested w))))
 wrote w =
     let wanted = w .before .before in
     let a = start (tested w) .args in
@@ -54,12 +54,12 @@ wrote w =
     let st : wanted .before .state-at .result ≡ before = wanted .before .state-at .ensures in
     let c : wanted .contents-at .result ≡ sent = wanted .contents-at .ensures in
     let out = a .out .now in
-    let r = w .write .ensures .0 ∙ ap₂ (λ (x : State) (y : Contents). writing x y (length out)) st c in
+    let r = w .write-sound .ensures .0 ∙ ap₂ (λ (x : State) (y : Contents). writing x y (length out)) st c in
     let over : (z : Written) → z ≡ writing before sent (length out)
     → writtenOver z (wanted .before .state-at .result) (wanted .contents-at .result) out
     ≡ writtenOver (writing before sent (length out)) before sent out =
     λ z e. ap₂ (λ (x : State) (y : Contents). writtenOver z x y out) st c ∙ ap (λ (u : Written). writtenOver u before sent out) e in
-    (r, w .write .ensures .1 ∙ over (w .write .result) r)
+    (r, w .write-sound .ensures .1 ∙ over (w .write-sound .result) r)
 
 returns : tie.Need-returns
 returns c =
@@ -72,6 +72,11 @@ state-at-requires c κs = sound-long _ (passed (c .before) .0)
 
 contents-at-requires : tie.Need-contents-at-requires
 contents-at-requires c κs = passed (c .before .before) .1
+
+write-sound-requires : tie.Need-write-sound-requires
+write-sound-requires c κs =
+    let before = c .before .before in
+    rw (before .state-at .ensures) (sound-parts _ (passed (before .before .before) .0) .state)
 
 returns-2 : tie.Need-returns-2
 returns-2 c =
@@ -111,6 +116,6 @@ pub oarcradler-write-stereo-spec : {M : Type 1} → statement M
 oarcradler-write-stereo-spec =
     tie.close
     (tie.spec (λ c κs. search needs) (λ c. search needs) returns state-at-requires contents-at-requires
-    (λ c κs. search needs) (λ c. search needs) (λ c. search needs) (λ c. search needs)
+    write-sound-requires (λ c. search needs) (λ c. search needs) (λ c. search needs)
     returns-2 put-state-requires (λ c κs. search needs) (λ c. search needs) put-requires (λ c. search needs)
     (λ c. search needs) (λ c. search needs) returns-3)

@@ -12,17 +12,17 @@ use Rattle.stereo_reader.proofs.read_bytes.Statement.{statement}
 use Rattle.stereo_reader.proofs.read_bytes.Tie as tie
 
 abbrev looked : tie.After-read-payload → tie.After-looked-at
-looked c = c .before .before .before .before
+looked c = c .before .before .before
 
 abbrev start : tie.After-read-payload → tie.Start
-start c = looked c .before .before .before .before
+start c = looked c .before .before .before
 
 -- what was read of the bytes that were looked at
 read-is : (c : tie.After-read-payload)
     → let r = c .read-payload .result in
     let s = start c .args .s .now in
     endedAnswer (r .ended) (r .contents) ≡ payload (from (start c .args .state)) s 0 (8 * min (length s) 1025)
-read-is c = rw (c .before .before .before .read-from .ensures, looked c .looked-at .ensures) at (c .read-payload .ensures)
+read-is c = rw (c .before .before .read-from .ensures, looked c .looked-at .ensures) at (c .read-payload .ensures)
 
 returns : tie.Need-returns
 returns c =
@@ -49,7 +49,7 @@ returns-3 c =
 pub read-bytes-spec : {M : Type 1} → statement M
 read-bytes-spec =
     tie.close
-    (tie.spec (λ c κs. search needs) (λ c κs. search needs) (λ c κs. search needs) (λ c. search needs)
-    (λ c κs. search needs) (λ c. search needs) (λ c. search needs) (λ c κs. search needs) (λ c. search needs)
+    (tie.spec (λ c κs. search needs) (λ c κs. search needs) (λ c. search needs)
+    (λ c κs. search needs) (λ c. search needs) (λ c κs. search needs) (λ c. search needs)
     (λ c κs. search needs) (λ c κs. search needs) returns (λ c κs. search needs) (λ c. search needs)
     (λ c κs. search needs) returns-2 returns-3)

@@ -1,64 +1,84 @@
--- An entry stands at the table's first place plus its number; past the table there is no word.
-use Prim.Native.Nat.{ℕ, _+_, _<_}
-use mathlib.Core.List.{List}
-use mathlib.Core.Path.{_∙_, ap, ap₂}
+-- An entry stands at its table's first place plus its number; past the table there is no word.
+use Prim.Native.Nat.{ℕ, suc, _+_, _-_, _/_, _%_, _<_, _≤_}
+use mathlib.Core.List.{List, [], _∷_}
+use mathlib.Core.Path.{_≡_, _∙_, ap, subst}
 use native.Mathlib.Omega.{arith}
 use lib.ListN.{length, getD}
-use Rattle.tables.proofs.RunLaws.{codes-count, lens-count}
-use Rattle.tables.proofs.PlaceLaws.{place-in, entry-is, no-entry}
 use borrow.Author.Needs.{needs}
+use Rattle.bits.specs.Pieces.{piece}
+use Rattle.tables.specs.InnerGenerated.{stereoWords}
+use Rattle.tables.specs.GeneratedNames.{tableAt}
+use Rattle.tables.specs.Tables.{spellWord}
+use Rattle.tables.proofs.LentLaws.{firstWord, words-count, words-in, entry-is, no-entry}
 use Rattle.tables.proofs.entry_word.Statement.{statement}
 use Rattle.tables.proofs.entry_word.Tie as tie
 
+-- as many words are lent as there are
+long : (c : tie.Start) → length (c .args .words .now) ≡ 253
+long c = ap length (c .pre .0) ∙ words-count
+
+-- where the table's words stand
+stands : (c : tie.Start) → let w = c .args .words .now in let t = c .args .t in
+    (getD w (t - 11) 0 ≡ getD w (t - 12) 0 + tableAt t .count) × (getD w (t - 11) 0 ≤ 253)
+stands c =
+    let t = c .args .t in
+    let next : t - 11 ≡ suc (t - 12) = omega arith in
+    let back : t - 12 + 12 ≡ t = omega arith in
+    let h = words-in (t - 12) (let p = c .pre in omega arith) in
+    rw (c .pre .0, next) (subst (λ (x : ℕ). (firstWord (suc (t - 12)) ≡ firstWord (t - 12) + tableAt x .count)
+    × (firstWord (suc (t - 12)) ≤ 253)) back h)
+
+shared-slice-read-first : tie.Need-shared-slice-read-first
+shared-slice-read-first c = omega (arith, long (c .before), c .before .pre .2)
+
+cast-first : tie.Need-cast-first
+cast-first c = let s = stands (c .before) in search needs
+
+shared-slice-read-last : tie.Need-shared-slice-read-last
+shared-slice-read-last c = omega (arith, long (c .before .before), c .before .before .pre .2)
+
+cast-last : tie.Need-cast-last
+cast-last c = let s = stands (c .before .before) in search needs
+
+sub-if1 : tie.Need-sub-if1
+sub-if1 c = let s = stands (c .before .before) in omega arith
+
 returns : tie.Need-returns
 returns c =
-    let x = c .before .before .before .before .before .args in
-    (no-entry (x .t) (x .entry) (omega (arith, c .before .count-of .ensures)), omega arith)
+    let a = c .before .before .before in
+    let s = stands a in
+    (no-entry (a .args .t) (a .args .entry) (omega arith), omega arith)
 
-abbrev start : tie.Else1 → tie.Start
-start c = c .before .before .before .before .before
+add-word : tie.Need-add-word
+add-word c = let s = stands (c .before .before .before) in search needs
 
--- past the test the entry stands in both lists
-place : (c : tie.Else1) → let a = start c .args in
-    let i = c .before .before .first-of .result + a .entry in
-    (i < length (a .codes .now)) × (i < length (a .lens .now)) × (i < 1604)
-place c =
-    let p = start c .pre in
-    let l = ap length (p .0) ∙ codes-count in
-    let m = ap length (p .1) ∙ lens-count in
-    let inside = place-in (start c .args .t) in
-    let f = c .before .before .first-of .ensures in
-    let n = c .before .count-of .ensures in
-    (omega arith, omega arith, omega arith)
+mul-word : tie.Need-mul-word
+mul-word c = let s = stands (c .before .before .before) in search needs
 
-add-t8 : tie.Need-add-t8
-add-t8 c = let i = place c in search needs
+shared-slice-read-word : tie.Need-shared-slice-read-word
+shared-slice-read-word c =
+    let a = c .before .before .before .before in
+    let s = stands a in
+    omega (arith, long a)
 
-mul-t9 : tie.Need-mul-t9
-mul-t9 c = let i = place c in search needs
-
-shared-slice-read-t11 : tie.Need-shared-slice-read-t11
-shared-slice-read-t11 c = place (c .before) .0
-
-add-t12 : tie.Need-add-t12
-add-t12 c = let i = place (c .before) in search needs
-
-shared-slice-read-t14 : tie.Need-shared-slice-read-t14
-shared-slice-read-t14 c = place (c .before .before) .1
+-- the word of an entry, by the table's number
+entry : (words : List ℕ) (t k : ℕ) → words ≡ stereoWords → 12 ≤ t → t < 22 → k < tableAt t .count
+    → let w = getD words (getD words (t - 12) 0 + k) 0 in (piece (w / 32) (w % 32) ∷ [] ≡ spellWord (tableAt t) k) × (w % 32 ≤ 20)
+entry words t k p low high h =
+    let back : t - 12 + 12 ≡ t = omega arith in
+    let g : k < tableAt (t - 12 + 12) .count = rw back h in
+    rw p (subst (λ (x : ℕ). let w = getD stereoWords (firstWord (t - 12) + k) 0 in (piece (w / 32) (w % 32) ∷ [] ≡ spellWord (tableAt x) k)
+    × (w % 32 ≤ 20)) back (entry-is (t - 12) (omega arith) k g))
 
 returns-2 : tie.Need-returns-2
 returns-2 c =
-    let at-count = c .before .before .before in
-    let at-first = at-count .before in
-    let start = at-first .before .before .before in
-    let x = start .args in
-    let f = at-first .first-of .ensures in
-    let n = at-count .count-of .ensures in
-    entry-is (x .t) (x .entry) (omega arith) (ap₂ (λ (s : List ℕ) (i : ℕ). getD s (i + x .entry) 0) (start .pre .0) f)
-    (ap₂ (λ (s : List ℕ) (i : ℕ). getD s (i + x .entry) 0) (start .pre .1) f)
+    let a = c .before .before .before .before in
+    let s = stands a in
+    entry (a .args .words .now) (a .args .t) (a .args .entry) (a .pre .0) (a .pre .1) (a .pre .2) (omega arith)
 
 pub entry-word-spec : {M : Type 1} → statement M
 entry-word-spec =
     tie.close
-    (tie.spec (λ c κs. search needs) (λ c κs. search needs) returns add-t8 mul-t9 shared-slice-read-t11 add-t12
-    shared-slice-read-t14 returns-2)
+    (tie.spec (λ c. search needs) (λ c. search needs) shared-slice-read-first cast-first (λ c. search needs)
+    (λ c. search needs) shared-slice-read-last cast-last sub-if1 returns add-word mul-word shared-slice-read-word
+    (λ c. search needs) returns-2)

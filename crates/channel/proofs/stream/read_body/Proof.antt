@@ -9,11 +9,11 @@ use Rattle.channel.proofs.stream.read_body.Statement.{statement}
 use Rattle.channel.proofs.stream.read_body.Tie as tie
 
 abbrev entry : tie.After-read-books → tie.Start
-entry c = c .before .before .before .before .before .before .before .before .before
+entry c = c .before .before .before .before .before .before .before .before
 
 read-books-requires : tie.Need-read-books-requires
 read-books-requires c κs =
-    let a = c .before .before .before .before .before .before .before .before in
+    let a = c .before .before .before .before .before .before .before in
     (a .pre .0, le-trans (a .pre .3) (bands-most _ _))
 
 returns : tie.Need-returns

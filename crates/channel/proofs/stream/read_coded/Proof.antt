@@ -8,14 +8,14 @@ use Rattle.channel.proofs.stream.read_coded.Tie as tie
 
 part-read-pulsed-end : tie.Need-part-read-pulsed-end
 part-read-pulsed-end c =
-    let a = c .before .before .before .before .before .before in
+    let a = c .before .before .before .before .before in
     let l : length (a .args .edges .now) ≡ 129 = ap length (a .pre .2) ∙ edges-count in
     search needs
 
 read-pulsed-requires : tie.Need-read-pulsed-requires
 read-pulsed-requires c κs =
     let part = c .before .before in
-    let a = part .before .before .before .before .before .before in
+    let a = part .before .before .before .before .before in
     (a .pre .0, a .pre .1, rw (a .pre .2) (part .part-of .ensures .0), a .pre .3, a .pre .4)
 
 pub read-coded-spec : {M : Type 1} → statement M

@@ -31,7 +31,7 @@ returns-3 c =
     let lines = c .before .before .before in
     let pulses = lines .before .before .before .before .before in
     let at-pulses = pulses .before .before .before in
-    let x = at-pulses .before .before .before .before .before .before .args in
+    let x = at-pulses .before .before .before .before .before .args in
     let e = ended-is _ (at-pulses .read-pulses .ensures .0) (pulses .pulses-ended .given .1) in
     let o = ended-is _ (lines .before .before .read-unpulsed .ensures) (lines .read .given .1) in
     coded-is (x .index) (x .window) (x .books .now) _ _ _ e o (c .apply-pulses .result) _ (c .apply-pulses .ensures (x .s .now) (x .end))

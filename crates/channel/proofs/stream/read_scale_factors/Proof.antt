@@ -11,7 +11,7 @@ use Rattle.channel.proofs.stream.read_scale_factors.Statement.{statemen
 use Rattle.channel.proofs.stream.read_scale_factors.Tie as tie
 
 abbrev entry : tie.After-groups-of → tie.Start
-entry c = c .before .before .before .before .before .before
+entry c = c .before .before .before .before .before
 
 -- the factors of all groups
 room : (c : tie.After-groups-of) → c .groups-of .result .count * maxSfb (entry c .args .head .window) ≤ 120

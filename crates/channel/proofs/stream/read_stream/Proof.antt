@@ -15,14 +15,14 @@ returns c =
 read-body-requires : tie.Need-read-body-requires
 read-body-requires c κs =
     let at-head = c .before .before .before .before .before .before .before in
-    let a = at-head .before .before .before .before .before in
+    let a = at-head .before .before .before .before in
     (a .pre .0, a .pre .1, a .pre .2, at-head .read-head .ensures .1, a .pre .3, a .pre .4, a .pre .5)
 
 returns-2 : tie.Need-returns-2
 returns-2 c =
     let head = c .before .before .before .before .before .before in
     let at-head = head .before .before in
-    let x = at-head .before .before .before .before .before .args in
+    let x = at-head .before .before .before .before .args in
     let e = ended-is _ (at-head .read-head .ensures .0) (head .head-ended .given .1) in
     rw (stream-on (x .index) (x .s .now) (x .at) (x .end) e) (c .read-body .ensures)
 

@@ -19,7 +19,7 @@ returns c =
 read-lines-requires : tie.Need-read-lines-requires
 read-lines-requires c κs =
     let flags = c .before .before .before .before in
-    let a = flags .before .before .before .before .before .before .before in
+    let a = flags .before .before .before .before .before .before in
     let short = isShort (a .args .window) in
     let most = bands-most (a .args .index) short in
     let some = bands-some (a .args .index) short in
@@ -29,7 +29,7 @@ returns-2 : tie.Need-returns-2
 unfolding unpulsed
 returns-2 c =
     let flags = c .before .before .before .before .before in
-    let a = flags .before .before .before .before .before .before .before in
+    let a = flags .before .before .before .before .before .before in
     let e = answered (flags .before .before .read-flags .ensures) (flags .flags .given .1) in
     rw e (sym (spectrum-is _ _ _ _ _ _ _ _ _ (a .pre .2) (a .pre .4) (sym (c .read-lines .ensures))))
 

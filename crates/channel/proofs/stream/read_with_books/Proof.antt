@@ -8,7 +8,7 @@ use Rattle.channel.proofs.stream.read_with_books.Tie as tie
 
 read-scale-factors-requires : tie.Need-read-scale-factors-requires
 read-scale-factors-requires c κs =
-    let start = c .before .before .before .before .before in
+    let start = c .before .before .before .before in
     (start .pre .0, start .pre .1, start .pre .3, start .pre .4)
 
 returns : tie.Need-returns
@@ -20,14 +20,14 @@ returns c =
 read-coded-requires : tie.Need-read-coded-requires
 read-coded-requires c κs =
     let factors = c .before .before .before in
-    let start = factors .before .before .before .before .before .before .before .before in
+    let start = factors .before .before .before .before .before .before .before in
     (start .pre .0, start .pre .1, start .pre .2, start .pre .3, start .pre .5)
 
 returns-2 : tie.Need-returns-2
 returns-2 c =
     let factors = c .before .before .before .before in
     let at-factors = factors .before .before in
-    let x = at-factors .before .before .before .before .before .before .args in
+    let x = at-factors .before .before .before .before .before .args in
     let e = ended-is _ (at-factors .read-scale-factors .ensures) (factors .scale .given .1) in
     lines-on (x .index) (x .head) _ _ _ _ e (c .read-coded .result) _ (c .read-coded .ensures)
 

@@ -11,20 +11,20 @@ use Rattle.channel_lines.proofs.lines.read_group.Statement.{statement}
 use Rattle.channel_lines.proofs.lines.read_group.Tie as tie
 
 abbrev Inv-loop : tie.InvT-loop
-Inv-loop s at end codes lens edges maxSfb books group lines₀ place₀ b₀ lines place b =
+Inv-loop s at end lookups edges maxSfb books group lines₀ place₀ b₀ lines place b =
     (b ≤ maxSfb)
     × (counted 0 maxSfb (groupBand edges books (group .base) (group .from) (group .windows)) lines₀ s at end
     ≡ counted b (maxSfb - b) (groupBand edges books (group .base) (group .from) (group .windows)) lines s place end)
 
 abbrev μ-loop : tie.MeasureT-loop
-μ-loop s at end codes lens edges maxSfb books group lines₀ place₀ b₀ lines place b = maxSfb - b
+μ-loop s at end lookups edges maxSfb books group lines₀ place₀ b₀ lines place b = maxSfb - b
 
 loop-holds : tie.Need-loop-holds Inv-loop μ-loop
 loop-holds c = (omega arith, counted-start _ _ _ _ _ _)
 
 read-group-band-requires : tie.Need-read-group-band-requires Inv-loop μ-loop
 read-group-band-requires c κs =
-    let a = c .before .before .before .before .before .before .before in
+    let a = c .before .before .before .before .before .before in
     (a .pre .0, a .pre .1, a .pre .2, omega arith, omega arith, a .pre .5)
 
 returns : tie.Need-returns Inv-loop μ-loop

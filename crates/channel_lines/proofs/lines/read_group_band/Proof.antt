@@ -9,12 +9,12 @@ use Rattle.channel_lines.proofs.lines.read_group_band.Tie as tie
 
 sub-width : tie.Need-sub-width
 sub-width c =
-    let a = c .before .before .before .before .before .before .before .before in
+    let a = c .before .before .before .before .before .before .before in
     rw add-one (a .pre .2 .step (a .args .b) (a .pre .3) .0)
 
 read-windows-requires : tie.Need-read-windows-requires
 read-windows-requires c κs =
-    let a = c .before .before .before .before .before .before .before .before .before in
+    let a = c .before .before .before .before .before .before .before .before in
     let w = a .pre .2 .step (a .args .b) (a .pre .3) in
     (a .pre .0, a .pre .1, rw add-one (omega arith))
 

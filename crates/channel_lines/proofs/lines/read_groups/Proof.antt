@@ -12,14 +12,14 @@ use Rattle.channel_lines.proofs.lines.read_groups.Statement.{statement}
 use Rattle.channel_lines.proofs.lines.read_groups.Tie as tie
 
 abbrev Inv-loop : tie.InvT-loop
-Inv-loop s start end codes lens edges maxSfb grouping books lines₀ at₀ base₀ from₀ lines at base from =
+Inv-loop s start end lookups edges maxSfb grouping books lines₀ at₀ base₀ from₀ lines at base from =
     (from ≤ 8)
     × (base ≤ 15 * from)
     × (groupLines edges maxSfb books (groupsAfter 8 grouping) 0 0 lines₀ s start end
     ≡ groupLines edges maxSfb books (groupsAfter (8 - from) grouping) base from lines s at end)
 
 abbrev μ-loop : tie.MeasureT-loop
-μ-loop s start end codes lens edges maxSfb grouping books lines₀ at₀ base₀ from₀ lines at base from = 8 - from
+μ-loop s start end lookups edges maxSfb grouping books lines₀ at₀ base₀ from₀ lines at base from = 8 - from
 
 loop-holds : tie.Need-loop-holds Inv-loop μ-loop
 loop-holds c = (omega arith, omega arith, refl)
@@ -28,7 +28,7 @@ read-group-requires : tie.Need-read-group-requires Inv-loop μ-loop
 read-group-requires c κs =
     let n = c .before .before .group-length in
     let head = c .before .before .before .before in
-    let a = head .before .before .before .before .before in
+    let a = head .before .before .before .before in
     let g = n .ensures in
     rw (c .before .group-at .ensures) (
       a .pre .0,

@@ -10,7 +10,7 @@ use Rattle.channel_lines.proofs.lines.read_lines.Tie as tie
 
 read-groups-requires : tie.Need-read-groups-requires
 read-groups-requires c κs =
-    let start = c .before .before .before .before .before .before in
+    let start = c .before .before .before .before .before in
     let w = of-short _ (c .before .if1 .taken) in
     (start .pre .0, start .pre .1, rising-up _ _ 128 (omega arith) (start .pre .2), start .pre .3, omega arith)
 
@@ -19,7 +19,7 @@ returns c = c .read-groups .ensures ∙ rw (groups-short _ _ (c .before .before 
 
 read-group-requires : tie.Need-read-group-requires
 read-group-requires c κs =
-    let start = c .before .before .before .before .before .before .before in
+    let start = c .before .before .before .before .before .before in
     let w = of-long _ (c .before .before .if1 .left) in
     rw (c .before .group-at .ensures)
     (start .pre .0, start .pre .1, rising-up _ _ 1024 (omega arith) (start .pre .2), start .pre .3, omega arith, omega arith)

@@ -12,14 +12,14 @@ use Rattle.channel_lines.proofs.lines.read_windows.Statement.{statement
 use Rattle.channel_lines.proofs.lines.read_windows.Tie as tie
 
 abbrev Inv-loop : tie.InvT-loop
-Inv-loop s at end codes lens number first width group lines₀ place₀ v₀ lines place v =
+Inv-loop s at end lookups number first width group lines₀ place₀ v₀ lines place v =
     (group .from ≤ v)
     × (v ≤ group .from + group .windows)
     × (windowsBand number first width (group .from) (group .windows) lines₀ s at end
     ≡ counted v (group .from + group .windows - v) (windowBand number first width) lines s place end)
 
 abbrev μ-loop : tie.MeasureT-loop
-μ-loop s at end codes lens number first width group lines₀ place₀ v₀ lines place v = group .from + group .windows - v
+μ-loop s at end lookups number first width group lines₀ place₀ v₀ lines place v = group .from + group .windows - v
 
 loop-holds : tie.Need-loop-holds Inv-loop μ-loop
 loop-holds c = (omega arith, omega arith, windows-start _ _ _ _ _ _ _ _ _)
@@ -30,7 +30,7 @@ returns c =
     let at-band = c .before .before in
     let head = at-band .before .before .before .before in
     let l = head .loop in
-    let x = head .before .before .before .before .args in
+    let x = head .before .before .before .args in
     let e = ended-is _ (at-band .read-band .ensures) told in
     rw told (sym (l .inv .2 ∙ counted-stop (windowBand (x .number) (x .first) (x .width)) _ _ _ _ _ _ _ _ (omega arith) e))
 
@@ -39,7 +39,7 @@ loop-again c =
     let at-band = c .before .before .before in
     let head = at-band .before .before .before .before in
     let l = head .loop in
-    let x = head .before .before .before .before .args in
+    let x = head .before .before .before .args in
     let e = ended-is _ (at-band .read-band .ensures) (c .before .read .given .1) in
     (omega arith, omega arith, l .inv .2 ∙ counted-more (windowBand (x .number) (x .first) (x .width)) _ _ _ _ _ _ _ _ (omega arith) e)
 

@@ -12,11 +12,11 @@ use Rattle.channel_side.proofs.factors.read_factors.Statement.{statemen
 use Rattle.channel_side.proofs.factors.read_factors.Tie as tie
 
 abbrev Inv-loop : tie.InvT-loop
-Inv-loop s at end codes lens n gain books factors₀ last₀ place₀ i₀ factors last place i =
+Inv-loop s at end lookups n gain books factors₀ last₀ place₀ i₀ factors last place i =
     (i ≤ n) × (last ≤ 255) × (firstFactors n gain books factors₀ s at end ≡ rest i n last books factors s place end)
 
 abbrev μ-loop : tie.MeasureT-loop
-μ-loop s at end codes lens n gain books factors₀ last₀ place₀ i₀ factors last place i = n - i
+μ-loop s at end lookups n gain books factors₀ last₀ place₀ i₀ factors last place i = n - i
 
 loop-holds : tie.Need-loop-holds Inv-loop μ-loop
 loop-holds c = (omega arith, omega arith, rest-start _ _ _ _ _ _ _)

@@ -23,7 +23,7 @@ returns c = rw (c .no-part .ensures) (announced-none _ _ _ _ _ _ _ _ (c .before 
 returns-2 : tie.Need-returns-2
 returns-2 c =
     let r = c .before .before in
-    let a = r .before .before .before .before .before .args in
+    let a = r .before .before .before .before .args in
     let l : a .end < a .at + 8 * a .size = short _ _ _ _ (r .remaining .ensures) (c .before .if2 .taken) in
     announced-short _ _ _ _ _ _ _ _ (r .before .if1 .left) l
 
@@ -31,7 +31,7 @@ returns-3 : tie.Need-returns-3
 returns-3 c =
     let p = c .before .before in
     let r = p .before .before in
-    let a = r .before .before .before .before .before .args in
+    let a = r .before .before .before .before .args in
     let l : a .at + 8 * a .size ≤ a .end = there _ _ _ _ (r .before .if1 .left) (r .remaining .ensures) (p .before .if2 .left) in
     ap (λ (x : Ended). endedAnswer x (p .read-part .result .part)) (c .before .inside .ensures)
     ∙ announced-part _ _ _ _ _ _ _ _ (r .before .if1 .left) l (p .read-part .result .ended) (p .read-part .result .part)

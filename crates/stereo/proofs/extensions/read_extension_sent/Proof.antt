@@ -12,7 +12,7 @@ use Rattle.stereo.proofs.extensions.read_extension_sent.Statement.{stat
 use Rattle.stereo.proofs.extensions.read_extension_sent.Tie as tie
 
 abbrev start : tie.After-size-field → tie.Start
-start c = c .before .before .before .before .before .before
+start c = c .before .before .before .before .before
 
 -- the size is read, then what may follow it
 size-is : (c : tie.After-size-field)

@@ -39,15 +39,15 @@ record Inv (f : List Phases → Reader Phases) (mode : ℕ) (h : PhaseRecords) (
   so-far : counted 0 n (more f) [] s at end ≡ counted k (n - k) (more f) (take k phases) s place end
 
 abbrev Inv-loop : tie.InvT-loop
-Inv-loop s at end mode n codes lens phases₀ last₀ place₀ k₀ phases last place k =
+Inv-loop s at end mode n lookups phases₀ last₀ place₀ k₀ phases last place k =
     Inv (next mode last₀) mode last₀ s at end n phases last place k
 
 abbrev μ-loop : tie.MeasureT-loop
-μ-loop s at end mode n codes lens phases₀ last₀ place₀ k₀ phases last place k = n - k
+μ-loop s at end mode n lookups phases₀ last₀ place₀ k₀ phases last place k = n - k
 
 loop-holds : tie.Need-loop-holds Inv-loop μ-loop
 loop-holds c =
-    let a = c .before .before .before .before .args in
+    let a = c .before .before .before .args in
     rw (c .none-of-four .ensures) (record {
       within = omega arith;
       filled = filled-none 4 noPhases;
@@ -56,7 +56,7 @@ loop-holds c =
     })
 
 abbrev start : tie.At-loop Inv-loop μ-loop → tie.Start Inv-loop μ-loop
-start c = c .before .before .before .before .before
+start c = c .before .before .before .before
 
 -- the phases so far, and those that follow them
 abbrev done : tie.At-loop Inv-loop μ-loop → List Phases

@@ -35,16 +35,16 @@ record Inv (f : List ℤ → List ℕ → ℕ → ℕ → Answer ℤ) (s : List 
   so-far : counted 0 count (more f) [] s at end ≡ counted i (count - i) (more f) (take i xs) s place end
 
 abbrev Inv-loop : tie.InvT-loop
-Inv-loop s at end kind mode time codes lens before count indices₀ last₀ place₀ i₀ indices last place i =
+Inv-loop s at end kind mode time lookups before count indices₀ last₀ place₀ i₀ indices last place i =
     Inv (index kind mode time before) s at end count indices (toZ w8 last) place i
 
 abbrev μ-loop : tie.MeasureT-loop
-μ-loop s at end kind mode time codes lens before count indices₀ last₀ place₀ i₀ indices last place i = count - i
+μ-loop s at end kind mode time lookups before count indices₀ last₀ place₀ i₀ indices last place i = count - i
 
 loop-holds : tie.Need-loop-holds Inv-loop μ-loop
 unfolding zeros
 loop-holds c =
-    let a = c .before .before .before .before .before .args in
+    let a = c .before .before .before .before .args in
     rw (c .zeros .ensures) (record {
       within = omega arith;
       few = c .before .bands .ensures .1;
@@ -56,7 +56,7 @@ loop-holds c =
     })
 
 abbrev start : tie.At-loop Inv-loop μ-loop → tie.Start Inv-loop μ-loop
-start c = c .before .before .before .before .before .before
+start c = c .before .before .before .before .before
 
 -- the indices so far, and the one that follows them
 abbrev done : tie.At-loop Inv-loop μ-loop → List ℤ

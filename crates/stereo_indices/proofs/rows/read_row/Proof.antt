@@ -10,7 +10,7 @@ use Rattle.stereo_indices.proofs.rows.read_row.Statement.{statement}
 use Rattle.stereo_indices.proofs.rows.read_row.Tie as tie
 
 abbrev start : tie.After-time → tie.Start
-start c = c .before .before .before .before .before .before
+start c = c .before .before .before .before .before
 
 -- the time flag is read
 flag : (c : tie.After-time)

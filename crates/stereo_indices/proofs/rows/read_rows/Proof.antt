@@ -31,16 +31,16 @@ record Inv (f : List Row → Reader Row) (mode : ℕ) (h : Record) (s : List ℕ
   so-far : counted 0 n (more f) [] s at end ≡ counted k (n - k) (more f) (take k rows) s place end
 
 abbrev Inv-loop : tie.InvT-loop
-Inv-loop s at end kind mode n codes lens rows₀ last₀ place₀ k₀ rows last place k =
+Inv-loop s at end kind mode n lookups rows₀ last₀ place₀ k₀ rows last place k =
     Inv (next kind mode last₀) mode last₀ s at end n rows last place k
 
 abbrev μ-loop : tie.MeasureT-loop
-μ-loop s at end kind mode n codes lens rows₀ last₀ place₀ k₀ rows last place k = n - k
+μ-loop s at end kind mode n lookups rows₀ last₀ place₀ k₀ rows last place k = n - k
 
 loop-holds : tie.Need-loop-holds Inv-loop μ-loop
 unfolding noRows
 loop-holds c =
-    let a = c .before .before .before .before .args in
+    let a = c .before .before .before .args in
     rw (c .no-rows .ensures) (record {
       within = omega arith;
       filled = filled-none 4 noRow;
@@ -49,7 +49,7 @@ loop-holds c =
     })
 
 abbrev start : tie.At-loop Inv-loop μ-loop → tie.Start Inv-loop μ-loop
-start c = c .before .before .before .before .before
+start c = c .before .before .before .before
 
 -- the rows so far, and the one that follows them
 abbrev done : tie.At-loop Inv-loop μ-loop → List Row

@@ -15,12 +15,13 @@ use Rattle.bits.proofs.Signed.{fits, thru}
 use Rattle.stereo_indices.specs.Difference.{difference, added}
 use Rattle.stereo_indices.proofs.KindLaws.{entry-le, through, byte-abs, least-abs, most-abs, in-range-abs, added-abs}
 use Rattle.stereo_indices.proofs.IndexLaws.{difference-is, index-got, index-outside, index-refused}
+use Rattle.tables.proofs.LentLaws.{stereo-lent}
 use borrow.Author.Needs.{needs}
 use Rattle.stereo_indices.proofs.steps.read_index.Statement.{statement}
 use Rattle.stereo_indices.proofs.steps.read_index.Tie as tie
 
 abbrev start : tie.After-known-told → tie.Start
-start c = c .before .before .before .before .before .before .before .before
+start c = c .before .before .before .before .before .before .before
 
 -- the entry that was read
 abbrev entry : tie.After-known-told → ℕ
@@ -30,6 +31,12 @@ entry c = c .before .entry .given .0 .0
 abbrev sum : tie.After-known-told → ℤ
 sum c = let a = start c .args in added (a .kind) (a .mode) (a .from) (entry c)
 
+read-word-requires : tie.Need-read-word-requires
+read-word-requires c κs =
+    let p = c .before .before .before .pre in
+    let d = c .difference-table .ensures in
+    (p .0, stereo-lent (c .difference-table .result) (d .1) (p .1), omega (arith, d .2))
+
 -- the table and the word
 word-is : (c : tie.After-known-told) → let a = start c .args in
     difference (a .kind) (a .mode) (a .time) (now (a .s)) (a .at) (a .end)
@@ -37,14 +44,14 @@ word-is : (c : tie.After-known-told) → let a = start c .args in
 word-is c =
     let t = c .before .before .before in
     let d = t .before .difference-table in
-    difference-is _ _ _ _ _ _ (d .result) (d .ensures .0) (answered (t .table-word .ensures) (c .before .entry .given .1))
+    difference-is _ _ _ _ _ _ (d .result) (d .ensures .0) (answered (t .read-word .ensures) (c .before .entry .given .1))
 
 -- entries are few
 entry-small : (c : tie.After-known-told) → entry c ≤ 60
 entry-small c =
     let t = c .before .before .before in
     let d = t .before .difference-table in
-    entry-le (d .result) _ _ _ _ _ (d .ensures .1) (d .ensures .2) (answered (t .table-word .ensures) (c .before .entry .given .1))
+    entry-le (d .result) _ _ _ _ _ (d .ensures .1) (d .ensures .2) (answered (t .read-word .ensures) (c .before .entry .given .1))
 
 -- the index that the code adds, and the test that it makes
 added-is : (c : tie.After-added) → c .added .result ≡ sum (c .before)
@@ -75,8 +82,8 @@ added-requires c κs = entry-small c
 within : (c : tie.Then1) → natAbs (sum (summed (c .before) .before)) ≤ 15
 within c = in-range-abs _ _ _ (sym (tested (c .before)) ∙ c .if1 .taken)
 
-cast-t21 : tie.Need-cast-t21
-cast-t21 c = rw (wide (summed (c .before))) (fits 15 (within c) (omega arith))
+cast-t20 : tie.Need-cast-t20
+cast-t20 c = rw (wide (summed (c .before))) (fits 15 (within c) (omega arith))
 
 returns : tie.Need-returns
 returns c =
@@ -93,11 +100,11 @@ returns-3 c =
     let t = c .before .before .before in
     let d = t .before .difference-table in
     index-refused _ _ _ _ _ _ _ _ _
-    (difference-is _ _ _ _ _ _ (d .result) (d .ensures .0) (answered (t .table-word .ensures) (c .before .number .given .1)))
+    (difference-is _ _ _ _ _ _ (d .result) (d .ensures .0) (answered (t .read-word .ensures) (c .before .number .given .1)))
 
 pub read-index-spec : {M : Type 1} → statement M
 read-index-spec =
     tie.close
-    (tie.spec (λ c κs. search needs) (λ c κs. search needs) (λ c. search needs) added-requires
-    (λ c κs. search needs) (λ c κs. search needs) (λ c κs. search needs) cast-t21 returns (λ c. search needs)
+    (tie.spec (λ c κs. search needs) read-word-requires (λ c. search needs) added-requires
+    (λ c κs. search needs) (λ c κs. search needs) (λ c κs. search needs) cast-t20 returns (λ c. search needs)
     returns-2 returns-3)

@@ -17,12 +17,12 @@ use Rattle.stereo_writer.proofs.extensions.put_all_phases.Statement.{st
 use Rattle.stereo_writer.proofs.extensions.put_all_phases.Tie as tie
 
 abbrev Inv-loop : tie.InvT-loop
-Inv-loop out₀ at on mode n codes lens phases ipd₀ opd₀ place₀ k₀ out ipd opd place k = (k ≤ 4) × (k ≤ n) × (length phases ≡ 4)
+Inv-loop out₀ at on mode n words phases ipd₀ opd₀ place₀ k₀ out ipd opd place k = (k ≤ 4) × (k ≤ n) × (length phases ≡ 4)
     × (ipd ≡ recordAfterRows ipd₀ mode (ipds (take k phases))) × (opd ≡ recordAfterRows opd₀ mode (opds (take k phases)))
     × Wrote (1362 * k) out₀ at (spellEach (spellPhases mode ipd₀ opd₀) [] (take k phases)) place out
 
 abbrev μ-loop : tie.MeasureT-loop
-μ-loop out₀ at on mode n codes lens phases ipd₀ opd₀ place₀ k₀ out ipd opd place k = 4 - k
+μ-loop out₀ at on mode n words phases ipd₀ opd₀ place₀ k₀ out ipd opd place k = 4 - k
 
 returns : tie.Need-returns Inv-loop μ-loop
 unfolding spellAllPhases
@@ -37,19 +37,19 @@ same-length c = wrote-length (c .before .before .loop .inv .5)
 returns-2 : tie.Need-returns-2 Inv-loop μ-loop
 unfolding spellAllPhases
 returns-2 c = let l = c .before .before in
-    let a = l .before .before .before .before .before .before .before .args in
+    let a = l .before .before .before .before .before .before .args in
     let e : l .loop .k ≡ a .n = omega arith in
     wrote-as (wrote-most (l .loop .inv .5) (omega arith)) (rw (eq-eqb (a .on) 1 (l .before .before .before .if1 .left), e))
 
 put-phases-requires : tie.Need-put-phases-requires Inv-loop μ-loop
 put-phases-requires c κs = let l = c .before .before .before .before in
-    let p = l .before .before .before .before .before .before .before .pre in
+    let p = l .before .before .before .before .before .before .pre in
     (room-after (l .loop .inv .5) (p .0) (omega arith), p .1)
 
 loop-again : tie.Need-loop-again Inv-loop μ-loop
 loop-again c = let w = c .before .before .before .before .before .before in
     let l = w .before .before .before .before .before in
-    let a = l .before .before .before .before .before .before .before .args in
+    let a = l .before .before .before .before .before .before .args in
     let n = l .loop .inv .2 in (
       omega arith,
       omega arith,
@@ -67,7 +67,7 @@ same-length-2 c = wrote-length (c .before .loop .inv .5)
 returns-3 : tie.Need-returns-3 Inv-loop μ-loop
 unfolding spellAllPhases
 returns-3 c = let l = c .before in
-    let a = l .before .before .before .before .before .before .before .args in
+    let a = l .before .before .before .before .before .before .args in
     let n = l .loop .inv .2 in
     let e = taken-whole (l .loop .k) (a .n) (a .t7) (omega arith) (omega arith) in
     wrote-as (wrote-most (l .loop .inv .5) (omega arith)) (rw (eq-eqb (a .on) 1 (l .before .before .before .if1 .left), e))

@@ -9,7 +9,7 @@ use Rattle.stereo_writer.proofs.extensions.put_extension.Tie as tie
 
 returns : tie.Need-returns
 unfolding spellExtension
-returns c = wrote-nothing (rw (not-true (c .before .before .before .before .args .on) (c .if1 .taken)))
+returns c = wrote-nothing (rw (not-true (c .before .before .before .args .on) (c .if1 .taken)))
 
 returns-2 : tie.Need-returns-2
 unfolding spellExtension spellSent spellAnnounced
@@ -20,7 +20,7 @@ returns-2 c = let k = c .before .before in
     let f = a .before .before in
     let twelve = wrote-then {most = 12} (a .put-field .ensures) (b .put-escape .ensures) (omega arith) in
     wrote-as (wrote-then twelve (k .put-announced .ensures) (omega arith))
-    (rw (not-false (f .before .before .before .before .args .on) (f .if1 .left), s .is-empty .ensures))
+    (rw (not-false (f .before .before .before .args .on) (f .if1 .left), s .is-empty .ensures))
 
 pub put-extension-spec : {M : Type 1} → statement M
 put-extension-spec =

@@ -10,7 +10,7 @@ put-extension-requires : tie.Need-put-extension-requires
 put-extension-requires c κs =
     let at-put-rows = c .before .before .before .before .before in
     let at-put-levels = at-put-rows .before .before .before .before .before .before .before in
-    let entry = at-put-levels .before .before .before .before .before .before .before .before in
+    let entry = at-put-levels .before .before .before .before .before .before .before in
     let two = wrote-then {most = 5481} (at-put-levels .put-levels .ensures) (at-put-rows .put-rows .ensures) (omega arith) in
     (room-after two (entry .pre .0) (omega arith), entry .pre .1)
 

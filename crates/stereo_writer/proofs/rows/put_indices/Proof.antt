@@ -16,24 +16,25 @@ use Rattle.stereo_writer.proofs.rows.put_indices.Statement.{statement}
 use Rattle.stereo_writer.proofs.rows.put_indices.Tie as tie
 
 abbrev Inv-loop : tie.InvT-loop
-Inv-loop out₀ at kind mode time before xs codes lens count table place₀ i₀ out place i = (i ≤ count) × (length xs ≡ 34)
+Inv-loop out₀ at kind mode time before xs words count table place₀ i₀ out place i = (i ≤ count) × (length xs ≡ 34)
     × Wrote (20 * i) out₀ at (spellEach (spellIndex kind mode time before) [] (take i xs)) place out
 
 abbrev μ-loop : tie.MeasureT-loop
-μ-loop out₀ at kind mode time before xs codes lens count table place₀ i₀ out place i = count - i
+μ-loop out₀ at kind mode time before xs words count table place₀ i₀ out place i = count - i
 
 loop-holds : tie.Need-loop-holds Inv-loop μ-loop
 loop-holds c = (omega arith, search needs, wrote-none)
 
 put-word-requires : tie.Need-put-word-requires Inv-loop μ-loop
 put-word-requires c κs = let l = c .before .before .before in
-    let p = l .before .before .before .before .before .before .pre in
+    let p = l .before .before .before .before .before .pre in
     let n = l .before .before .bands .ensures .1 in
-    (room-after (l .loop .inv .2) (p .0) (omega arith), p .1)
+    let t = l .before .difference-table .ensures in
+    (room-after (l .loop .inv .2) (p .0) (omega arith), p .1, t .1, omega (arith, t .2))
 
 loop-again : tie.Need-loop-again Inv-loop μ-loop
 loop-again c = let l = c .before .before .before .before .before .before in
-    let a = l .before .before .before .before .before .before .args in
+    let a = l .before .before .before .before .before .args in
     let n = l .loop .inv .1 in
     let b = l .before .before .bands .ensures .1 in
     let t = l .before .difference-table .ensures .0 in
@@ -51,7 +52,7 @@ same-length c = wrote-length (c .before .loop .inv .2)
 
 returns : tie.Need-returns Inv-loop μ-loop
 returns c = let l = c .before in
-    let a = l .before .before .before .before .before .before .args in
+    let a = l .before .before .before .before .before .args in
     let b = l .before .before .bands .ensures in
     let e : l .loop .i ≡ bands (a .kind) (a .mode) = omega (arith, b .0) in
     wrote-as (wrote-most (l .loop .inv .2) (omega arith)) (rw e)

@@ -17,4 +17,5 @@ returns-2 c = let r = c .before .before .before in
 pub is-read-back-spec : {M : Type 1} → statement M
 is-read-back-spec =
     tie.close
-    (tie.spec (λ c κs. search needs) enum-told (λ c κs. search needs) (λ c. search needs) returns returns-2)
+    (tie.spec (λ c κs. search needs) (λ c. search needs) (λ c κs. search needs) enum-told (λ c κs. search needs) (λ c. search needs)
+    returns returns-2)

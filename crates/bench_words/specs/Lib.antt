@@ -1,0 +1,3 @@
+pub mod InnerTable
+pub mod InnerComparison
+pub mod InnerSums
