@@ -7,11 +7,11 @@ use Rattle.bits.specs.Payload.{ended, whole}
 use Rattle.words.specs.Words.{fits, cutOff, scan, word}
 use Rattle.words.specs.Escape.{ones, magnitude, escape}
 use Rattle.tables.specs.GeneratedWords.{allCodes, allLens}
-use Rattle.channel_lines.specs.Bands.{long34, short34, long67, short67, bands, bandCount, firstLine, bandWidth}
-use Rattle.channel_lines.specs.Grouping.{groupsFrom, groupsAfter, groupsOf}
-use Rattle.channel_lines.specs.Books.{books, bookOf}
-use Rattle.channel_lines.specs.Tuple.{spectralWord, digit, signed, value, escapeAt, escaped, tuple}
-use Rattle.channel_lines.specs.Spectrum.{put, bandWord, band, windowsBand, groupBand, groupLines, spectrum}
+use Rattle.channel_bands.specs.Bands.{long34, short34, long67, short67, bands, bandCount, firstLine, bandWidth}
+use Rattle.channel_bands.specs.Grouping.{groupsFrom, groupsAfter, groupsOf}
+use Rattle.channel_words.specs.Books.{books, bookOf}
+use Rattle.channel_words.specs.Tuple.{spectralWord, digit, signed, value, escapeAt, escaped, tuple, put}
+use Rattle.channel_lines.specs.Spectrum.{bandWord, band, windowsBand, groupBand, groupLines, spectrum}
 use Rattle.channel_side.specs.Window.{windowSequence, maxSfbOf, groupingOf, windowBands, window}
 use Rattle.channel_side.specs.Sections.{increment, sectionLength, sectionBook, fill, section, groupSections, widthOf, groupBooks, sections}
 use Rattle.channel_side.specs.Factors.{factor, bandFactor, firstFactors, scaleFactors}

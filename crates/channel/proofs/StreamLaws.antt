@@ -9,8 +9,8 @@ use Rattle.bits.specs.Reader.{Answer, got, give, after}
 use Rattle.bits.specs.InnerAnswers.{endedAnswer}
 use Rattle.bits.specs.declared.Ended.{Ended}
 use Rattle.bits.specs.declared.Ended.the-variants.{At, Refused}
-use Rattle.channel_lines.specs.Bands.{long34, short34, long67, short67}
-use Rattle.channel_lines.specs.InnerBands.{allEdges}
+use Rattle.channel_bands.specs.Bands.{long34, short34, long67, short67}
+use Rattle.channel_bands.specs.InnerBands.{allEdges}
 use Rattle.channel_lines.specs.Spectrum.{groupLines, spectrum}
 use Rattle.channel.specs.InnerAnswers.{HoldsLines, HoldsStream}
 use Rattle.channel_side.specs.declared.window.Window.{Window}

@@ -10,7 +10,7 @@ use Rattle.bits.specs.Reader.{Answer, got, refused}
 use Rattle.bits.specs.Payload.{Range, isThere, bytesIn, whole}
 use Rattle.bits.specs.Calls.{Test, _or_, firstRefusal}
 use Rattle.bits.specs.Sampling.{knownIndex}
-use Rattle.channel_lines.specs.Grouping.{inEight}
+use Rattle.channel_bands.specs.Grouping.{inEight}
 use Rattle.channel_side.specs.Window.{maxSfb, groups}
 use Rattle.channel.specs.Stream.{Head, Stream, stream}
 use Rattle.channel.specs.declared.Reading.{Reading}

@@ -4,7 +4,7 @@ use mathlib.Core.List.{List}
 use lib.IntN.{ℤ}
 use Rattle.bits.specs.Reader.{Reader, give, _>>=_}
 use Rattle.bits.specs.Field.{field, zeroBit}
-use Rattle.channel_lines.specs.Bands.{bands}
+use Rattle.channel_bands.specs.Bands.{bands}
 use Rattle.channel_lines.specs.Spectrum.{spectrum}
 use Rattle.channel_side.specs.declared.window.Window.{Window}
 use Rattle.channel_side.specs.Window.{isShort, maxSfb, groups, window}

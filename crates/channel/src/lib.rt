@@ -83,7 +83,7 @@ pub fn answer(head: Head, bits: usize) -> Reading
     ensures { λ r. ⌜ r ≡ accepted head bits ⌝ }
 {
     let window = head.window;
-    let found = channel_lines::grouping::groups_of(window.sequence == 2, window.grouping);
+    let found = channel_bands::grouping::groups_of(window.sequence == 2, window.grouping);
     let windows = found.windows;
     Reading {
         number: 0,

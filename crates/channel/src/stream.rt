@@ -6,8 +6,8 @@ ghost use lib.ListN.{length, replicate};
 ghost use Rattle.bits.specs.InnerAnswers.{fieldAnswer, endedAnswer};
 ghost use Rattle.bits.specs.Payload.{whole};
 ghost use Rattle.tables.specs.InnerLent.{ChannelTables};
-ghost use Rattle.channel_lines.specs.Bands.{bands};
-ghost use Rattle.channel_lines.specs.InnerBands.{allEdges};
+ghost use Rattle.channel_bands.specs.Bands.{bands};
+ghost use Rattle.channel_bands.specs.InnerBands.{allEdges};
 ghost use Rattle.channel_side.specs.InnerAnswers.{Bounded};
 ghost use Rattle.channel_side.specs.Window.{isShort};
 ghost use Rattle.channel_side.specs.Factors.{scaleFactors};
@@ -15,8 +15,8 @@ ghost use Rattle.channel.specs.InnerAnswers.{noHead, HoldsLines, HoldsSt
 ghost use Rattle.channel.specs.Stream.{headOf, noTools, unpulsed, codedOf, streamWith, streamAfter, stream};
 use bits::Ended;
 use bits::Field;
-use channel_lines::bands::part_of;
-use channel_lines::grouping::groups_of;
+use channel_bands::bands::part_of;
+use channel_bands::grouping::groups_of;
 use channel_lines::lines::read_lines;
 use channel_side::factors::read_factors;
 use channel_side::pulses::apply_pulses;
@@ -341,7 +341,7 @@ pub fn read_from(
         (stream index (now (s .entry)) at end) ⌝ }
 {
     let lookups = tables::channel_lookups();
-    let edges = channel_lines::bands::edges();
+    let edges = channel_bands::bands::edges();
     read_stream(s, at, end, &lookups, &edges, index, books, factors, lines)
 }
 

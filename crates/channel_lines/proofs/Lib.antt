@@ -1,10 +1,4 @@
-pub mod BandLaws
-pub mod GroupingLaws
-pub mod BookLaws
-pub mod MagnitudeLaws
-pub mod ValueLaws
 pub mod SpectrumLaws
 pub mod SpectrumLawful
 pub mod SpectrumMoves
-pub mod GroupCounts
 pub mod SpectrumNear

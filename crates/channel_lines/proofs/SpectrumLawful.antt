@@ -8,8 +8,8 @@ use Rattle.bits.proofs.FieldLaws.{field-lawful}
 use Rattle.bits.proofs.LoopLaws.{counted-lawful}
 use Rattle.words.proofs.EscapeLaws.{escape-lawful}
 use Rattle.tables.proofs.Rules.{lawful-at}
-use Rattle.channel_lines.specs.Books.{Book}
-use Rattle.channel_lines.specs.Tuple.{spectralWord, value, escapeAt, escaped, tuple}
+use Rattle.channel_words.specs.Books.{Book}
+use Rattle.channel_words.specs.Tuple.{spectralWord, value, escapeAt, escaped, tuple}
 use Rattle.channel_lines.specs.Spectrum.{bandWord, band, windowsBand, groupBand, groupLines, spectrum}
 
 ruleset laws = (bind-lawful, give-lawful, pick-lawful, field-lawful, counted-lawful)

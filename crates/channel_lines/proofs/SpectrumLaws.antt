@@ -13,20 +13,15 @@ use lib.IntN.{ℤ, pos}
 use Rattle.bits.specs.Reader.{Answer, Reader, got, refused, give, after, _>>=_}
 use Rattle.bits.specs.Loop.{counted}
 use Rattle.bits.proofs.LoopLaws.{counted-same}
-use Rattle.channel_lines.specs.Books.{book, silentBook, books, bookOf}
-use Rattle.channel_lines.specs.Bands.{firstLine, bandWidth}
-use Rattle.channel_lines.specs.Grouping.{groupsAfter, groupsOf}
-use Rattle.channel_lines.proofs.MagnitudeLaws.{no-escape}
-use Rattle.channel_lines.specs.InnerWords.{kind, valuesBy, putBy, wordsBy, putEscaped, escapedBy}
-use Rattle.channel_lines.specs.Tuple.{spectralWord, digit, value, escaped, tuple}
-use Rattle.channel_lines.specs.Spectrum.{put, bandWord, band, windowBand, windowsBand, groupBand, groupLines}
+use Rattle.channel_words.specs.Books.{book, silentBook, books, bookOf}
+use Rattle.channel_bands.specs.Bands.{firstLine, bandWidth}
+use Rattle.channel_bands.specs.Grouping.{groupsAfter, groupsOf}
+use Rattle.channel_words.proofs.MagnitudeLaws.{no-escape}
+use Rattle.channel_words.specs.InnerWords.{kind, valuesBy, putBy, wordsBy, putEscaped, escapedBy}
+use Rattle.channel_words.specs.Tuple.{spectralWord, digit, value, escaped, tuple, put}
+use Rattle.channel_lines.specs.Spectrum.{bandWord, band, windowBand, windowsBand, groupBand, groupLines}
 
--- what follows a reading that ends in an answer goes by the answer
-after-give-then : {A B : Type 0} (a : Answer A) (k : A → Reader B) (s : List ℕ) (end : ℕ)
-    → after a k s end ≡ after (after a give s end) k s end
-after-give-then (got x m) k s end = refl
-after-give-then (refused n p) k s end = refl
-
+-- what follows a reading that another follows
 after-after : {A B C : Type 0} (a : Answer A) (f : A → Reader B) (g : B → Reader C) (s : List ℕ) (end : ℕ)
     → after (after a f s end) g s end ≡ after a (λ x. f x >>= g) s end
 after-after (got x m) f g s end = refl
@@ -45,8 +40,8 @@ module _ (word : Reader ℕ) (first t : ℕ) (lines : List ℤ) (s : List ℕ) (
           ≡ after (after a (λ entry. counted 0 dim (value (kind dim base offset) entry) (replicate 4 (pos 0)) >>= give) s end)
           (λ vs. give (put lines (first + t * dim) dim vs)) s end
       go (got entry m) =
-          after-give-then (counted 0 dim (value (kind dim base offset) entry) (replicate 4 (pos 0)) s m end)
-          (λ vs. give (put lines (first + t * dim) dim vs)) s end
+          ap (λ x. after x (λ vs. give (put lines (first + t * dim) dim vs)) s end)
+          (sym (after-give (counted 0 dim (value (kind dim base offset) entry) (replicate 4 (pos 0)) s m end) s end))
       go (refused k p) = refl
 
   escape-by : word s at end ≡ spectralWord 11 s at end

@@ -7,8 +7,8 @@ use lib.IntN.{ℤ}
 use Rattle.bits.proofs.Moves.{Moves, bind-moves, give-moves, pick-moved, field-moves, counted-moves}
 use Rattle.words.proofs.WordMoves.{escape-moves}
 use Rattle.tables.proofs.TableMoves.{moves-at}
-use Rattle.channel_lines.specs.Books.{Book}
-use Rattle.channel_lines.specs.Tuple.{spectralWord, value, escapeAt, escaped, tuple}
+use Rattle.channel_words.specs.Books.{Book}
+use Rattle.channel_words.specs.Tuple.{spectralWord, value, escapeAt, escaped, tuple}
 use Rattle.channel_lines.specs.Spectrum.{bandWord, band, windowsBand, groupBand, groupLines, spectrum}
 
 ruleset laws = (bind-moves, give-moves, pick-moved, field-moves, counted-moves)

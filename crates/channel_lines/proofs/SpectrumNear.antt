@@ -14,15 +14,15 @@ use Rattle.bits.specs.Loop.{counted}
 use Rattle.bits.proofs.NearLaws.{Near, so-costs, on-costs, give-costs, field-costs, pick-costs, bind-costs, counted-costs, each-costs}
 use Rattle.words.proofs.EscapeNear.{escape-near}
 use Rattle.tables.proofs.WordNear.{word-near}
-use Rattle.channel_lines.specs.Bands.{bands, bandCount, bandWidth}
-use Rattle.channel_lines.specs.InnerBands.{windowLines, Rising}
-use Rattle.channel_lines.specs.Grouping.{groupsOf}
-use Rattle.channel_lines.specs.Books.{Book, isSilent, bookOf}
-use Rattle.channel_lines.specs.Tuple.{spectralWord, digit, value, escapeAt, escaped, tuple}
+use Rattle.channel_bands.specs.Bands.{bands, bandCount, bandWidth}
+use Rattle.channel_bands.specs.InnerBands.{windowLines, Rising}
+use Rattle.channel_bands.specs.Grouping.{groupsOf}
+use Rattle.channel_words.specs.Books.{Book, isSilent, bookOf}
+use Rattle.channel_words.specs.Tuple.{spectralWord, digit, value, escapeAt, escaped, tuple}
 use Rattle.channel_lines.specs.Spectrum.{bandWord, band, windowsBand, groupBand, groupLines, spectrum}
-use Rattle.channel_lines.proofs.BandLaws.{bands-rising, bands-some}
-use Rattle.channel_lines.proofs.BookLaws.{spectral-book}
-use Rattle.channel_lines.proofs.GroupCounts.{windows, groups-lines}
+use Rattle.channel_bands.proofs.BandLaws.{bands-rising, bands-some}
+use Rattle.channel_words.proofs.BookLaws.{spectral-book}
+use Rattle.channel_bands.proofs.GroupCounts.{windows, groups-lines}
 
 value-near : (b : Book) (entry j : ℕ) (vs : List ℤ) → Near 1 (value b entry j vs)
 unfolding value

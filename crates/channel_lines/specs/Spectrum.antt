@@ -1,18 +1,13 @@
 -- The lines, in window order: within a group they are sent by band, then window, then line.
-use Prim.Native.Nat.{ℕ, zero, suc, _+_, _*_, _/_}
+use Prim.Native.Nat.{ℕ, _+_, _*_, _/_}
 use mathlib.Core.List.{List, [], _∷_}
-use lib.ListN.{getD, set, replicate}
+use lib.ListN.{getD, replicate}
 use lib.IntN.{ℤ, pos}
 use Rattle.bits.specs.Reader.{Reader, give, pick, _>>=_}
 use Rattle.bits.specs.Loop.{counted}
-use Rattle.channel_lines.specs.Bands.{firstLine, bandWidth}
-use Rattle.channel_lines.specs.Books.{Book, isSilent, bookOf}
-use Rattle.channel_lines.specs.Tuple.{tuple}
-
--- the first n of some values put in the lines, from line k on
-unfoldable pub put : List ℤ → ℕ → ℕ → List ℤ → List ℤ
-put lines k zero vs = lines
-put lines k (suc n) vs = set (put lines k n vs) (k + n) (getD vs n (pos 0))
+use Rattle.channel_bands.specs.Bands.{firstLine, bandWidth}
+use Rattle.channel_words.specs.Books.{Book, isSilent, bookOf}
+use Rattle.channel_words.specs.Tuple.{tuple, put}
 
 -- the t-th word of a band that starts at a line
 unfoldable pub bandWord : Book → ℕ → ℕ → List ℤ → Reader (List ℤ)

@@ -1,7 +1,2 @@
-// The lines of a channel stream: bands, groups of windows, the words of each kind of book, and the lines in window order.
-pub mod bands;
-pub mod grouping;
+// The lines of a channel stream, in window order.
 pub mod lines;
-mod pairs;
-mod quads;
-mod signs;

@@ -5,17 +5,17 @@ ghost use lib.ListN.{length};
 ghost use Rattle.bits.specs.Loop.{counted};
 ghost use Rattle.bits.specs.InnerAnswers.{endedAnswer};
 ghost use Rattle.tables.specs.InnerLent.{ChannelTables};
-ghost use Rattle.channel_lines.specs.InnerBands.{Rising, windowLines, mostBands};
-ghost use Rattle.channel_lines.specs.Books.{bookOf};
-ghost use Rattle.channel_lines.specs.Grouping.{groupsAfter, groupsOf};
-ghost use Rattle.channel_lines.specs.InnerWords.{BookLookup};
+ghost use Rattle.channel_bands.specs.InnerBands.{Rising, windowLines, mostBands};
+ghost use Rattle.channel_words.specs.Books.{bookOf};
+ghost use Rattle.channel_bands.specs.Grouping.{groupsAfter, groupsOf};
+ghost use Rattle.channel_words.specs.InnerWords.{BookLookup};
 ghost use Rattle.channel_lines.specs.Spectrum.{band, windowsBand, groupBand, groupLines};
-use crate::grouping::group_length;
-use crate::pairs::read_signed_pairs;
-use crate::pairs::read_unsigned_pairs;
-use crate::quads::read_signed_quads;
-use crate::quads::read_unsigned_quads;
 use bits::Ended;
+use channel_bands::grouping::group_length;
+use channel_words::pairs::read_signed_pairs;
+use channel_words::pairs::read_unsigned_pairs;
+use channel_words::quads::read_signed_quads;
+use channel_words::quads::read_unsigned_quads;
 
 // A group of windows: where its books start, its first window, and how many windows it has.
 pub struct Group {

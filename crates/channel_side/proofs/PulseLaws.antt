@@ -13,9 +13,9 @@ use Rattle.bits.specs.Field.{field}
 use Rattle.bits.specs.Loop as loop
 use Rattle.bits.proofs.Lawful.{tested-got}
 use Rattle.bits.proofs.Taken.{field-below}
-use Rattle.channel_lines.specs.Bands.{bands, bandCount, firstLine}
-use Rattle.channel_lines.specs.InnerBands.{windowLines}
-use Rattle.channel_lines.proofs.BandLaws.{bands-rising, bands-some}
+use Rattle.channel_bands.specs.Bands.{bands, bandCount, firstLine}
+use Rattle.channel_bands.specs.InnerBands.{windowLines}
+use Rattle.channel_bands.proofs.BandLaws.{bands-rising, bands-some}
 use Rattle.bits.proofs.LoopLaws.{counted-start, counted-more, counted-stop, counted-done}
 use Rattle.channel_side.proofs.MostLaws.{set-most}
 use Rattle.channel_side.specs.InnerAnswers.{Low, Applicable}

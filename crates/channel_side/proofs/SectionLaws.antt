@@ -16,7 +16,7 @@ use Rattle.bits.specs.Loop.{while}
 use Rattle.bits.proofs.Lawful.{Lawful, tested-got, after-give, bind-lawful, give-lawful, expecting-lawful}
 use Rattle.bits.proofs.FieldLaws.{field-lawful}
 use Rattle.bits.proofs.WhileLaws.{Takes, field-takes, expecting-takes, bind-takes, while-lawful, while-more, while-stop, while-done}
-use Rattle.channel_lines.specs.Grouping.{groupsAfter, groupsOf}
+use Rattle.channel_bands.specs.Grouping.{groupsAfter, groupsOf}
 use Rattle.channel_side.specs.Sections.{Length, increment, sectionLength, sectionBook, fill}
 use Rattle.channel_side.specs.Sections.{Covered, section, groupSections, groupBooks, widthOf}
 

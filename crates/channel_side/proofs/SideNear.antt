@@ -18,10 +18,10 @@ use Rattle.bits.proofs.Gives.{Gives, so-gives, give-gives, bind-gives, then-giv
 use Rattle.bits.proofs.NearLaws.{Costs, Near, so-costs, on-costs, give-costs, here-costs, field-costs, zeroBit-costs, expecting-costs}
 use Rattle.bits.proofs.NearLaws.{pick-costs, known-costs, bind-costs, each-costs, while-costs}
 use Rattle.tables.proofs.WordNear.{word-near}
-use Rattle.channel_lines.specs.Bands.{bandCount}
-use Rattle.channel_lines.proofs.BandLaws.{bands-most}
-use Rattle.channel_lines.proofs.GroupingLaws.{groups-room}
-use Rattle.channel_lines.proofs.GroupCounts.{groups-few}
+use Rattle.channel_bands.specs.Bands.{bandCount}
+use Rattle.channel_bands.proofs.BandLaws.{bands-most}
+use Rattle.channel_bands.proofs.GroupingLaws.{groups-room}
+use Rattle.channel_bands.proofs.GroupCounts.{groups-few}
 use Rattle.channel_side.specs.InnerAnswers.{Bounded}
 use Rattle.channel_side.specs.Window.{Window, isShort, maxSfb, groups, windowSequence, maxSfbOf, groupingOf, windowBands, window}
 use Rattle.channel_side.specs.Sections.{Length, increment, sectionLength, sectionBook, Covered, section, groupSections}

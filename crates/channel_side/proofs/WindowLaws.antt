@@ -11,9 +11,9 @@ use Rattle.bits.specs.Reader.{Answer, got, pick, tested}
 use Rattle.bits.specs.Field.{field, zeroBit}
 use Rattle.bits.proofs.Lawful.{split, tested-got}
 use Rattle.bits.proofs.Taken.{field-below}
-use Rattle.channel_lines.specs.Bands.{bandCount}
+use Rattle.channel_bands.specs.Bands.{bandCount}
 use Rattle.channel_side.specs.Window.{windowSequence, maxSfbOf, groupingOf}
-use Rattle.channel_lines.proofs.BandLaws.{bands-most, most-small}
+use Rattle.channel_bands.proofs.BandLaws.{bands-most, most-small}
 
 pub max-sfb-bound : (index : ℕ) (short : Bool) (s : List ℕ) (at end v next : ℕ) → maxSfbOf index short s at end ≡ got v next
     → v ≤ bandCount index short

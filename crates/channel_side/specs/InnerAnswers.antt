@@ -8,7 +8,7 @@ use Rattle.bits.specs.InnerAnswers.{endedAnswer}
 use Rattle.bits.specs.declared.Ended.{Ended}
 use Rattle.bits.specs.declared.Field.{Field}
 use Rattle.bits.specs.declared.Field.the-variants.{Got, Refused}
-use Rattle.channel_lines.specs.Bands.{bandCount}
+use Rattle.channel_bands.specs.Bands.{bandCount}
 use Rattle.channel_side.specs.Window.{Window, isShort, maxSfb}
 use Rattle.channel_side.specs.Sections.{Covered}
 use Rattle.channel_side.specs.Factors.{Factors}

@@ -10,7 +10,7 @@ use Rattle.bits.specs.Reader.{Answer, got, refused, Reader, give, pick, expecti
 use Rattle.bits.specs.Field.{field}
 use Rattle.bits.specs.Loop.{counted}
 use Rattle.bits.specs.Places.{here}
-use Rattle.channel_lines.specs.Bands.{bands, bandCount, firstLine}
+use Rattle.channel_bands.specs.Bands.{bands, bandCount, firstLine}
 -- pulses so far: the line that the next offset counts from; and in four places the line, the amplitude and the place of each
 pub use Rattle.channel_side.specs.declared.pulses.Laid.{Laid}
 -- how many pulses there are, and in four places the line, the amplitude and the place of each

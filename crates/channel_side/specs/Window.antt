@@ -5,8 +5,8 @@ use mathlib.Core.Bool.{Bool}
 use lib.Dec.{eqb, leb}
 use Rattle.bits.specs.Reader.{Reader, give, pick, expecting, _>>=_}
 use Rattle.bits.specs.Field.{field, zeroBit}
-use Rattle.channel_lines.specs.Bands.{bandCount}
-use Rattle.channel_lines.specs.Grouping.{groupsOf}
+use Rattle.channel_bands.specs.Bands.{bandCount}
+use Rattle.channel_bands.specs.Grouping.{groupsOf}
 pub use Rattle.channel_side.specs.declared.window.Window.{Window}
 
 -- window sequence 2 is eight short windows

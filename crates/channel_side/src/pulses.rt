@@ -5,7 +5,7 @@ ghost use mathlib.Core.Bool.{false};
 ghost use lib.ListN.{length, getD, set};
 ghost use lib.IntN.{pos};
 ghost use Rattle.bits.specs.InnerAnswers.{fieldAnswer, endedAnswer};
-ghost use Rattle.channel_lines.specs.Bands.{bands};
+ghost use Rattle.channel_bands.specs.Bands.{bands};
 ghost use Rattle.channel_side.specs.InnerAnswers.{Within, Applicable, Always};
 ghost use Rattle.channel_side.specs.Pulses.{noneLaid, allLaid, pulse, eachPulse, startBand, pulseData, noPulses, pulses};
 ghost use Rattle.channel_side.specs.Pulses.{pulsed, changed, applyPulses};
@@ -160,7 +160,7 @@ fn read_start(s: &[u8], at: usize, end: usize, index: u8) -> Field
     let Field::Got(band, _) = band_field else {
         return band_field;
     };
-    if channel_lines::bands::band_count(index, false) <= band {
+    if channel_bands::bands::band_count(index, false) <= band {
         return Field::Refused(25, at);
     }
     band_field

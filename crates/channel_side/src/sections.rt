@@ -3,8 +3,8 @@ ghost use mathlib.Core.Path.{_≡_};
 ghost use Prim.Native.Nat.{_+_, _*_, _≤_, _<_};
 ghost use lib.ListN.{length};
 ghost use Rattle.bits.specs.InnerAnswers.{fieldAnswer, endedAnswer};
-ghost use Rattle.channel_lines.specs.InnerBands.{mostBands};
-ghost use Rattle.channel_lines.specs.Grouping.{groupsOf};
+ghost use Rattle.channel_bands.specs.InnerBands.{mostBands};
+ghost use Rattle.channel_bands.specs.Grouping.{groupsOf};
 ghost use Rattle.channel_side.specs.InnerAnswers.{coveredAnswer, Fits, Further};
 ghost use Rattle.channel_side.specs.Sections.{sectionLength, sectionBook, fill, section, groupSections, groupBooks, widthOf};
 use bits::Ended;
@@ -137,7 +137,7 @@ pub fn read_books(
     let mut base = 0;
     let mut from = 0;
     while from < 8 {
-        let n = channel_lines::grouping::group_length(grouping, from);
+        let n = channel_bands::grouping::group_length(grouping, from);
         let read = read_group(s, place, end, 3, max_sfb, base, books);
         let Ended::At(next) = read else {
             return read;

@@ -60,7 +60,7 @@ fn read_max_sfb(s: &[u8], at: usize, end: usize, index: u8, short: bool) -> Fiel
     requires { ⌜ end ≤ 8 * length (now s) ⌝ }
     ensures { λ r. ⌜ fieldAnswer r ≡ maxSfbOf index short (now (s .entry)) at end ⌝ }
 {
-    let most = channel_lines::bands::band_count(index, short);
+    let most = channel_bands::bands::band_count(index, short);
     if short {
         return bits::at_most(bits::read_field(s, at, end, 4), most, 21, at);
     }

@@ -16,8 +16,8 @@ use Rattle.bits.specs.Payload.{Range, isThere, bytesIn}
 use Rattle.bits.proofs.FourBytes.{word-back}
 use Rattle.bits.proofs.Lawful.{never}
 use Rattle.bits.proofs.OverLaws.{over-front}
-use Rattle.channel_lines.specs.Grouping.{inEight}
-use Rattle.channel_lines.proofs.GroupCounts.{groups-few}
+use Rattle.channel_bands.specs.Grouping.{inEight}
+use Rattle.channel_bands.proofs.GroupCounts.{groups-few}
 use Rattle.channel_side.specs.Window.{isShort, groups}
 use Rattle.channel.specs.declared.stream.Head.{Head}
 use Rattle.channel.specs.Stream.{Stream}

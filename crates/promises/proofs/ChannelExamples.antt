@@ -8,7 +8,7 @@ use lib.IntN.{ℤ, pos, negsuc}
 use Rattle.bits.specs.Lists.{padded}
 use Rattle.bits.specs.Reader.{refused}
 use Rattle.bits.specs.Payload.{whole}
-use Rattle.channel_lines.specs.Grouping.{inEight}
+use Rattle.channel_bands.specs.Grouping.{inEight}
 use Rattle.channel.specs.Stream.{stream}
 use Rattle.channel.specs.Promise.{readingOf, linesAfter, factorsAfter, booksAfter}
 use Rattle.channel.specs.declared.Reading.{Reading}

@@ -20,11 +20,11 @@ use Rattle.words.specs.Escape.{escape}
 use Rattle.tables.specs.Tables.{codesOf, lensOf, wordOf}
 use Rattle.tables.specs.GeneratedNames.{tableAt, scaleFactor}
 use Rattle.tables.proofs.Rules.{ruled-at}
-use Rattle.channel_lines.specs.Books.{Book, isSilent, bookOf}
-use Rattle.channel_lines.proofs.BookLaws.{spectral-book}
+use Rattle.channel_words.specs.Books.{Book, isSilent, bookOf}
+use Rattle.channel_words.proofs.BookLaws.{spectral-book}
 use Rattle.bits.proofs.Bools.{true-false}
 use borrow.Author.Tests.{eq-eqb}
-use Rattle.channel_lines.specs.Tuple.{spectralWord, value, escapeAt, escaped, tuple}
+use Rattle.channel_words.specs.Tuple.{spectralWord, value, escapeAt, escaped, tuple}
 use Rattle.channel_lines.specs.Spectrum.{bandWord, band, windowsBand, groupBand, groupLines, spectrum}
 use Rattle.channel_side.specs.declared.window.Window.{Window}
 use Rattle.channel_side.specs.declared.pulses.Laid.{Laid}

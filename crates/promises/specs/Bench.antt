@@ -9,7 +9,7 @@ use Rattle.bits.specs.Bits.{bitsFrom}
 use Rattle.bits.specs.Reader.{got, refused}
 use Rattle.bits.specs.Payload.{rangeIn, whole}
 use Rattle.words.specs.Escape.{escape}
-use Rattle.channel_lines.specs.Grouping.{groupsAfter}
+use Rattle.channel_bands.specs.Grouping.{groupsAfter}
 use Rattle.channel_side.specs.Sections.{sectionLength}
 use Rattle.channel.specs.Stream.{stream}
 use Rattle.stereo_indices.specs.Record.{none}

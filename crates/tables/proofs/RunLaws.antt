@@ -21,19 +21,23 @@ pub lens-count : length allLens ≡ 1604
 unfolding allLens
 lens-count = refl
 
--- each is at most n
-abbrev allLe : ℕ → List ℕ → Bool
-allLe n [] = true
-allLe n (x ∷ xs) = leb x n && allLe n xs
+-- each is from one number to another
+abbrev allBetween : ℕ → ℕ → List ℕ → Bool
+allBetween low high [] = true
+allBetween low high (x ∷ xs) = (leb low x && leb x high) && allBetween low high xs
 
-all-at : (n : ℕ) (xs : List ℕ) → T (allLe n xs) → (i : ℕ) → i < length xs → getD xs i 0 ≤ n
-all-at n [] t i h = absurd (not-suc-le-zero h)
-all-at n (x ∷ xs) t zero h = leb→le x n (and-left (leb x n) (allLe n xs) t)
-all-at n (x ∷ xs) t (suc i) h = all-at n xs (and-right (leb x n) (allLe n xs) t) i (omega arith)
+between-at : (low high : ℕ) (xs : List ℕ) → T (allBetween low high xs) → (i : ℕ) → i < length xs
+    → (low ≤ getD xs i 0) × (getD xs i 0 ≤ high)
+between-at low high [] t i h = absurd (not-suc-le-zero h)
+between-at low high (x ∷ xs) t zero h =
+    let both = and-left (leb low x && leb x high) (allBetween low high xs) t in
+    (leb→le low x (and-left (leb low x) (leb x high) both), leb→le x high (and-right (leb low x) (leb x high) both))
+between-at low high (x ∷ xs) t (suc i) h =
+    between-at low high xs (and-right (leb low x && leb x high) (allBetween low high xs) t) i (omega arith)
 
-narrow : T (allLe 20 allLens)
+lens-between : T (allBetween 1 20 allLens)
 unfolding allLens
-narrow = tt
+lens-between = tt
 
 pub run-length : (xs : List ℕ) (first count : ℕ) → first + count ≤ length xs → length (run xs first count) ≡ count
 run-length xs first count h = simp (length-take, length-drop) (omega arith)
@@ -41,23 +45,8 @@ run-length xs first count h = simp (length-take, length-drop) (omega arith)
 pub run-at : (xs : List ℕ) (first count i : ℕ) → i < count → getD (run xs first count) i 0 ≡ getD xs (first + i) 0
 run-at xs first count i h = rw (getD-take, getD-drop)
 
--- each is at least n
-abbrev allGe : ℕ → List ℕ → Bool
-allGe n [] = true
-allGe n (x ∷ xs) = leb n x && allGe n xs
-
-ge-at : (n : ℕ) (xs : List ℕ) → T (allGe n xs) → (i : ℕ) → i < length xs → n ≤ getD xs i 0
-ge-at n [] t i h = absurd (not-suc-le-zero h)
-ge-at n (x ∷ xs) t zero h = leb→le n x (and-left (leb n x) (allGe n xs) t)
-ge-at n (x ∷ xs) t (suc i) h = ge-at n xs (and-right (leb n x) (allGe n xs) t) i (omega arith)
-
-wide : T (allGe 1 allLens)
-unfolding allLens
-wide = tt
-
 -- a word has a bit at least, and 20 at most
 pub run-sizes : (first count k : ℕ) → first + count ≤ 1604 → k < count
     → (1 ≤ getD (run allLens first count) k 0) × (getD (run allLens first count) k 0 ≤ 20)
 run-sizes first count k h g =
-    rw (run-at allLens first count k g)
-    (ge-at 1 allLens wide (first + k) (omega (arith, lens-count)), all-at 20 allLens narrow (first + k) (omega (arith, lens-count)))
+    rw (run-at allLens first count k g) (between-at 1 20 allLens lens-between (first + k) (omega (arith, lens-count)))

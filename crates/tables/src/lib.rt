@@ -68,14 +68,6 @@ fn first_bits(t: usize) -> usize
     6
 }
 
-// A place that is lent.
-fn place_at(lookups: &[u16], i: usize) -> usize
-    requires { ⌜ i < length (now lookups) ⌝ }
-    ensures { λ r. ⌜ r ≡ getD (now (lookups .entry)) i 0 ⌝ }
-{
-    lookups[i] as usize
-}
-
 // Where the lookup of a table stands, by its number.
 pub fn lookup_of(lookups: &[u16], t: usize) -> Lookup
     requires { ⌜ (now lookups ≡ lookupsFor t) × (t < 22) ⌝ }
@@ -83,8 +75,8 @@ pub fn lookup_of(lookups: &[u16], t: usize) -> Lookup
 {
     let part = part_of(t);
     Lookup {
-        first: place_at(lookups, part),
-        last: place_at(lookups, part + 1),
+        first: words::lookup::element(lookups, part),
+        last: words::lookup::element(lookups, part + 1),
         bits: first_bits(t),
     }
 }

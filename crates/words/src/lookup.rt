@@ -7,7 +7,7 @@ ghost use Rattle.words.specs.InnerLookup.{nextElement, leadsTo, leafOf, 
 use bits::Field;
 
 // An element of a lookup.
-fn element(look: &[u16], i: usize) -> usize
+pub fn element(look: &[u16], i: usize) -> usize
     requires { ⌜ i < length (now look) ⌝ }
     ensures { λ r. ⌜ (r ≡ getD (now (look .entry)) i 0) × (r < 65536) ⌝ }
 {

@@ -16,14 +16,14 @@ place c =
     let a = c .before .before in
     rw (c .part-of .ensures, a .pre .0) (part-in (a .args .t) (a .pre .1))
 
-place-at-requires : tie.Need-place-at-requires
-place-at-requires c κs = let h = place c in omega arith
+element-requires : tie.Need-element-requires
+element-requires c κs = let h = place c in omega arith
 
-add-place-at : tie.Need-add-place-at
-add-place-at c = let h = place (c .before) in search needs
+add-element : tie.Need-add-element
+add-element c = let h = place (c .before) in search needs
 
-place-at-requires-2 : tie.Need-place-at-requires-2
-place-at-requires-2 c κs = let h = place (c .before) in omega arith
+element-requires-2 : tie.Need-element-requires-2
+element-requires-2 c κs = let h = place (c .before) in omega arith
 
 -- three numbers that are those of a lookup
 lookup-is : (t first last bits : ℕ) → first ≡ getD (lookupsFor t) (partOf t) 0 → last ≡ getD (lookupsFor t) (suc (partOf t)) 0
@@ -39,11 +39,11 @@ returns c =
     let n = part .part-of .ensures in
     let next : part .part-of .result + 1 ≡ suc (partOf (a .args .t)) = omega arith in
     let e = lookup-is (a .args .t) _ _ _
-    (first .place-at .ensures ∙ ap₂ (λ (s : List ℕ) (i : ℕ). getD s i 0) (a .pre .0) n)
-    (c .before .place-at2 .ensures ∙ ap₂ (λ (s : List ℕ) (i : ℕ). getD s i 0) (a .pre .0) next) (c .first-bits .ensures) in
+    (first .element .ensures .0 ∙ ap₂ (λ (s : List ℕ) (i : ℕ). getD s i 0) (a .pre .0) n)
+    (c .before .element2 .ensures .0 ∙ ap₂ (λ (s : List ℕ) (i : ℕ). getD s i 0) (a .pre .0) next) (c .first-bits .ensures) in
     (e, lies-of (a .args .t) (a .pre .1) (a .pre .0) e)
 
 pub lookup-of-spec : {M : Type 1} → statement M
 lookup-of-spec =
     tie.close
-    (tie.spec (λ c κs. search needs) place-at-requires add-place-at place-at-requires-2 (λ c κs. search needs) returns)
+    (tie.spec (λ c κs. search needs) element-requires add-element element-requires-2 (λ c κs. search needs) returns)

@@ -1,7 +1,7 @@
 -- Sections, then what follows them: the first refusal stands.
 use native.Mathlib.Nat.{le-trans}
 use Rattle.bits.proofs.Taken.{ended-is}
-use Rattle.channel_lines.proofs.BandLaws.{bands-most}
+use Rattle.channel_bands.proofs.BandLaws.{bands-most}
 use Rattle.channel.specs.Stream.{streamAfter}
 use Rattle.channel.proofs.StreamLaws.{sections-is, books-on}
 use borrow.Author.Needs.{needs}

@@ -2,8 +2,8 @@
 use Prim.Native.Nat.{_*_, _≤_}
 use native.Mathlib.Omega.{arith}
 use native.Mathlib.Nat.{le-trans}
-use Rattle.channel_lines.proofs.BandLaws.{bands-most}
-use Rattle.channel_lines.proofs.GroupingLaws.{groups-room}
+use Rattle.channel_bands.proofs.BandLaws.{bands-most}
+use Rattle.channel_bands.proofs.GroupingLaws.{groups-room}
 use Rattle.channel_side.specs.Window.{isShort, maxSfb}
 use Rattle.channel.proofs.StreamLaws.{factors-is}
 use borrow.Author.Needs.{needs}

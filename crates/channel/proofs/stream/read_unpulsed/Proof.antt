@@ -2,7 +2,7 @@
 use mathlib.Core.Path.{sym, _∙_}
 use native.Mathlib.Omega.{arith}
 use Rattle.bits.proofs.Taken.{answered, passed}
-use Rattle.channel_lines.proofs.BandLaws.{bands-rising, bands-most, bands-some}
+use Rattle.channel_bands.proofs.BandLaws.{bands-rising, bands-most, bands-some}
 use Rattle.channel_side.specs.Window.{isShort}
 use Rattle.channel.specs.Stream.{unpulsed}
 use Rattle.channel.proofs.StreamLaws.{spectrum-is}

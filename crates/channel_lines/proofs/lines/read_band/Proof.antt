@@ -3,7 +3,7 @@ use Prim.Native.Nat.{_≤_}
 use native.Mathlib.Omega.{arith}
 use borrow.Author.Needs.{needs}
 use Rattle.tables.proofs.LentLaws.{channel-lent}
-use Rattle.channel_lines.proofs.BookLaws.{no-book, past-books, book-lookup}
+use Rattle.channel_words.proofs.BookLaws.{no-book, past-books, book-lookup}
 use Rattle.channel_lines.proofs.SpectrumLaws.{band-silent}
 use Rattle.channel_lines.proofs.lines.read_band.Statement.{statement}
 use Rattle.channel_lines.proofs.lines.read_band.Tie as tie

@@ -1,7 +1,7 @@
 -- The book, the first line and the width of the band are those of the tables.
 use native.Mathlib.Omega.{arith}
 use native.Mathlib.Numerals.{add-one}
-use Rattle.channel_lines.specs.Bands.{firstLine, bandWidth}
+use Rattle.channel_bands.specs.Bands.{firstLine, bandWidth}
 use Rattle.channel_lines.specs.Spectrum.{groupBand}
 use borrow.Author.Needs.{needs}
 use Rattle.channel_lines.proofs.lines.read_group_band.Statement.{statement}

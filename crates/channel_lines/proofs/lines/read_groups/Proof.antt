@@ -3,9 +3,9 @@ use Prim.Native.Nat.{_+_, _*_, _-_, _≤_}
 use mathlib.Core.Path.{_≡_, refl, sym, _∙_}
 use native.Mathlib.Omega.{arith}
 use Rattle.bits.proofs.Taken.{ended-is}
-use Rattle.channel_lines.specs.Grouping.{groupsAfter}
+use Rattle.channel_bands.specs.Grouping.{groupsAfter}
 use Rattle.channel_lines.specs.Spectrum.{groupLines}
-use Rattle.channel_lines.proofs.BandLaws.{rising-up}
+use Rattle.channel_bands.proofs.BandLaws.{rising-up}
 use Rattle.channel_lines.proofs.SpectrumLaws.{lines-stop, lines-more, lines-done}
 use borrow.Author.Needs.{needs}
 use Rattle.channel_lines.proofs.lines.read_groups.Statement.{statement}

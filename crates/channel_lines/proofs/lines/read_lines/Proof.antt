@@ -1,8 +1,8 @@
 -- The groups of short windows, or the one group that a long window is.
 use mathlib.Core.Path.{_∙_}
 use native.Mathlib.Omega.{arith}
-use Rattle.channel_lines.proofs.BandLaws.{of-short, of-long, rising-up}
-use Rattle.channel_lines.proofs.GroupingLaws.{groups-short}
+use Rattle.channel_bands.proofs.BandLaws.{of-short, of-long, rising-up}
+use Rattle.channel_bands.proofs.GroupingLaws.{groups-short}
 use Rattle.channel_lines.proofs.SpectrumLaws.{lines-long}
 use borrow.Author.Needs.{needs}
 use Rattle.channel_lines.proofs.lines.read_lines.Statement.{statement}

@@ -3,8 +3,8 @@ use mathlib.Core.Path.{_≡_, refl, _∙_}
 use mathlib.Core.Logic.{inl, inr}
 use native.Mathlib.Omega.{arith}
 use borrow.Author.Tests.{ne-eqb}
-use Rattle.channel_lines.specs.Books.{books, bookOf}
-use Rattle.channel_lines.proofs.BookLaws.{pair-is, pair-count}
+use Rattle.channel_words.specs.Books.{books, bookOf}
+use Rattle.channel_words.proofs.BookLaws.{pair-is, pair-count}
 use Rattle.channel_lines.proofs.SpectrumLaws.{band-by, band-pairs, band-escaped}
 use Rattle.channel_lines.proofs.lines.read_spectral_band.Statement.{statement}
 use Rattle.channel_lines.proofs.lines.read_spectral_band.Tie as tie

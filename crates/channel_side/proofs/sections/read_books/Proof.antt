@@ -4,9 +4,9 @@ use mathlib.Core.Path.{_≡_, sym, _∙_}
 use native.Mathlib.Omega.{arith}
 use borrow.Author.Tests.{not-true, not-false}
 use Rattle.bits.proofs.Taken.{ended-is}
-use Rattle.channel_lines.specs.Grouping.{groupsAfter, groupsOf}
-use Rattle.channel_lines.specs.InnerBands.{mostBands}
-use Rattle.channel_lines.proofs.BandLaws.{of-short, of-long}
+use Rattle.channel_bands.specs.Grouping.{groupsAfter, groupsOf}
+use Rattle.channel_bands.specs.InnerBands.{mostBands}
+use Rattle.channel_bands.proofs.BandLaws.{of-short, of-long}
 use Rattle.channel_side.specs.Sections.{groupBooks, widthOf}
 use Rattle.channel_side.proofs.SectionLaws.{books-stop, books-more, books-done, books-short, books-long}
 use borrow.Author.Needs.{needs}

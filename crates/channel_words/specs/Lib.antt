@@ -1,0 +1,4 @@
+pub mod Books
+pub mod Tuple
+pub mod InnerWords
+pub mod InnerPairs
