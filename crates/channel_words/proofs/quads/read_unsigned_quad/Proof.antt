@@ -103,6 +103,23 @@ bit-of-requires-4 : tie.Need-bit-of-requires-4
 bit-of-requires-4 c κs = let i = inside (c .before .before .before .before .before .before .before .before .before .before .before
     .before) in omega arith
 
+abbrev word-of : tie.After-with-sign → tie.After-word
+word-of c = c .before .before .before .before .before .before .before .before
+
+-- there is room for four values from the line on
+room : (c : tie.After-with-sign) → start (word-of c) .args .line + 4 ≤ 1024
+room c = start (word-of c) .pre .2
+
+-- where the first value was made, from where each other one is
+abbrev back₂ : tie.After-with-sign2 → tie.After-with-sign
+back₂ c = c .before .before
+
+abbrev back₃ : tie.After-with-sign3 → tie.After-with-sign
+back₃ c = back₂ (c .before .before)
+
+abbrev back₄ : tie.After-with-sign4 → tie.After-with-sign
+back₄ c = back₃ (c .before .before)
+
 returns-3 : tie.Need-returns-3
 returns-3 c =
     let third = c .before .before in
@@ -149,8 +166,8 @@ read-unsigned-quad-spec =
     (tie.spec (λ c κs. search needs) leaf-requires (λ c κs. search needs) (λ c. search needs) (λ c. search needs)
     (λ c κs. search needs) returns sub-first (λ c κs. search needs) add-second (λ c κs. search needs) add-third
     (λ c κs. search needs) add-fourth (λ c κs. search needs) add-size sub-if1 returns-2 add-after
-    bit-of-requires (λ c κs. omega arith) (λ c. search needs) (λ c. search needs)
-    bit-of-requires-2 (λ c κs. omega arith) (λ c. search needs) (λ c. search needs) (λ c. search needs)
-    bit-of-requires-3 (λ c κs. omega arith) (λ c. search needs) (λ c. search needs) (λ c. search needs)
-    bit-of-requires-4 (λ c κs. omega arith) (λ c. search needs) (λ c. search needs) (λ c. search needs)
-    returns-3)
+    bit-of-requires (λ c κs. omega arith) (λ c. omega (arith, room c)) (λ c. omega (arith, room c))
+    bit-of-requires-2 (λ c κs. omega arith) (λ c. omega (arith, room (back₂ c))) (λ c. omega (arith, room (back₂ c)))
+    (λ c. omega (arith, room (back₂ c))) bit-of-requires-3 (λ c κs. omega arith) (λ c. omega (arith, room (back₃ c)))
+    (λ c. omega (arith, room (back₃ c))) (λ c. omega (arith, room (back₃ c))) bit-of-requires-4 (λ c κs. omega arith)
+    (λ c. omega (arith, room (back₄ c))) (λ c. omega (arith, room (back₄ c))) (λ c. omega (arith, room (back₄ c))) returns-3)
