@@ -30,7 +30,7 @@ valuesBy word b = word >>= λ entry. counted 0 (b .dim) (value b entry) (replica
 unfoldable pub putBy : Reader ℕ → Book → ℕ → List ℤ → Reader (List ℤ)
 putBy word b line lines = valuesBy word b >>= λ vs. give (put lines line (b .dim) vs)
 
--- the words of a band that starts at a line
+-- the t-th word of a band that starts at a line
 abbrev pub wordsBy : Reader ℕ → Book → ℕ → ℕ → List ℤ → Reader (List ℤ)
 wordsBy word b first t = putBy word b (first + t * b .dim)
 
@@ -42,7 +42,7 @@ magnitudeOf d = pick (eqb d 16) escape (give d)
 unfoldable pub putEscaped : Reader ℕ → ℕ → ℕ → List ℤ → Reader (List ℤ)
 putEscaped word base line lines = valuesBy word (kind 2 base 0) >>= λ vs. counted 0 2 escaped vs >>= λ us. give (put lines line 2 us)
 
--- the words of a band of unsigned pairs that starts at a line
+-- the t-th word of a band of unsigned pairs that starts at a line
 abbrev pub escapedBy : Reader ℕ → ℕ → ℕ → ℕ → List ℤ → Reader (List ℤ)
 escapedBy word base first t = putEscaped word base (first + t * 2)
 

@@ -1,4 +1,4 @@
--- What a word of a spectral book stands for: a tuple of values, with sign bits and escapes.
+-- What a word of a spectral book stands for: a tuple of values, with sign bits and escapes, and the lines that it fills.
 use Prim.Native.Nat.{ℕ, zero, suc, _+_, _-_, _/_, _%_, _^_}
 use mathlib.Core.List.{List}
 use lib.Dec.{eqb}

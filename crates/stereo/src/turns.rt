@@ -109,7 +109,7 @@ fn record_after(on: bool, mode: u32, rec: Record, n: usize, indices: [i8; 34]) -
     Record { mode, indices }
 }
 
-// The indices of the last of n envelopes; with none, those of the first. Each is named by itself, so that no other is copied.
+// The indices of the last of n envelopes; with none, those of the first.
 fn last_row(n: usize, rows: [Row; 4]) -> [i8; 34]
     ensures { λ r. ⌜ r ≡ lastRow n rows ⌝ }
 {
@@ -132,7 +132,7 @@ fn last_row(n: usize, rows: [Row; 4]) -> [i8; 34]
     records::zeros()
 }
 
-// The phases of the last of n envelopes, in the same way.
+// The phases of the last of n envelopes; with none, those of the first.
 fn last_phases(n: usize, phases: [Phases; 4]) -> Phases
     ensures { λ r. ⌜ r ≡ lastPhases n phases ⌝ }
 {

@@ -62,7 +62,7 @@ fn sound_index(kind: Kind, mode: u32, i: usize, x: i8) -> bool
     kinds::within(0, 0, x as i16)
 }
 
-// Whether an index is too, after others.
+// Whether an index is sound, and those before it are.
 fn still_sound(sound: bool, kind: Kind, mode: u32, i: usize, x: i8) -> bool
     ensures { λ r. ⌜ r ≡ (sound && soundIndex kind mode i x) ⌝ }
 {
@@ -72,7 +72,7 @@ fn still_sound(sound: bool, kind: Kind, mode: u32, i: usize, x: i8) -> bool
     sound
 }
 
-// Whether every index is; all are looked at, which is faster than to stop.
+// Whether 34 indices are sound.
 fn sound_indices(kind: Kind, mode: u32, indices: [i8; 34]) -> bool
     ensures { λ r. ⌜ r ≡ soundFrom kind mode 0 indices ⌝ }
 {

@@ -15,7 +15,7 @@ use stereo::Part;
 use stereo::Phases;
 use stereo_indices::Row;
 
-// Whether an index is the same too, after others.
+// Whether an index is the same, and those before it are.
 fn is_still_same(same: bool, x: i8, y: i8) -> bool
     ensures { λ r. ⌜ r ≡ (sameIndex x y && same) ⌝ }
 {
@@ -25,7 +25,7 @@ fn is_still_same(same: bool, x: i8, y: i8) -> bool
     same
 }
 
-// Whether 34 indices are the same; all are looked at, which is faster than to stop.
+// Whether 34 indices are the same.
 fn same_indices(xs: [i8; 34], ys: [i8; 34]) -> bool
     ensures { λ r. ⌜ r ≡ sameList sameIndex xs ys ⌝ }
 {

@@ -58,7 +58,7 @@ fn bytes_for(bits: usize) -> usize
     (bits + 7) / 8
 }
 
-// Contents spelled from a state into a scratch array, by words that are made for it alone.
+// Contents spelled from a state into a scratch array.
 fn put_spelled(scratch: &mut [u8], state: State, contents: Contents) -> usize
     requires { ⌜ Room 12288 0 (now scratch) ⌝ }
     ensures { λ r. ⌜ Wrote 10952 (now (scratch .entry)) 0 (spelling state contents) r (now (scratch .exit)) ⌝ }
