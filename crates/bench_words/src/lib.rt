@@ -54,7 +54,7 @@ fn scanned(
     scan::read_word(s, at, end, &codes[first..last], &lens[first..last])
 }
 
-// The same by lookup.
+// The entry of the word at a place, of a table by its number, by lookup.
 fn looked(s: &[u8], at: usize, end: usize, channel: &[u16], stereo: &[u16], t: usize) -> Field
     requires { ⌜ (end ≤ 8 * length (now s)) × ChannelTables (now channel) × StereoTables (now stereo) × (t < 22) ⌝ }
     ensures { λ r. ⌜ fieldAnswer r ≡ wordOf (tableAt t) (now (s .entry)) at end ⌝ }
@@ -154,7 +154,7 @@ pub extern "C" fn oarcradler_bench_scan(bytes: &[u8], end: u32, words: &[u32]) -
     sum
 }
 
-// The same by lookup.
+// The words of a list, each a place and a table's number, by lookup: the sum of their entries and of the places after them.
 #[no_mangle]
 pub extern "C" fn oarcradler_bench_lookup(bytes: &[u8], end: u32, words: &[u32]) -> u32
     ensures { λ r. ⌜ r ≡ wordsSum (now (bytes .entry)) end (now (words .entry)) ⌝ }

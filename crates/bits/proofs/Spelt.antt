@@ -9,7 +9,7 @@ use native.Mathlib.Omega.{arith}
 use native.Mathlib.Decide.{decLe}
 use native.Mathlib.Nat.{add-zero, zero-add, add-assoc}
 use borrow.Author.Tests.{le-leb, lt-leb}
-use lib.ListN.{length, length-append}
+use lib.ListN.{length, length-append, getD, replicate}
 use Rattle.bits.specs.Bits.{bitsFrom}
 use Rattle.bits.specs.Reader.{got, refused, Reader, give, refuse, _>>=_, pick, expecting}
 use Rattle.bits.specs.Field.{field}
@@ -155,6 +155,15 @@ Every P (x ∷ xs) = P x × Every P xs
 pub every-append : {A : Type 0} (P : A → Type 0) (xs ys : List A) → Every P xs → Every P ys → Every P (xs ++ ys)
 every-append P [] ys p q = q
 every-append P (x ∷ xs) ys p q = (p .0, every-append P xs ys (p .1) q)
+
+pub every-replicate : {A : Type 0} (P : A → Type 0) (n : ℕ) (x : A) → P x → Every P (replicate n x)
+every-replicate P zero x p = tt
+every-replicate P (suc n) x p = (p, every-replicate P n x p)
+
+pub every-at : {A : Type 0} (P : A → Type 0) (xs : List A) (i : ℕ) (d : A) → Every P xs → P d → P (getD xs i d)
+every-at P [] i d p q = q
+every-at P (x ∷ xs) zero d p q = p .0
+every-at P (x ∷ xs) (suc i) d p q = every-at P xs i d (p .1) q
 
 pub spell-snoc : {A : Type 0} (w : List A → A → List Piece) (done xs : List A) (x : A)
     → spellEach w done (xs ++ x ∷ []) ≡ spellEach w done xs ++ w (done ++ xs) x

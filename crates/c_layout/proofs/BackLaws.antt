@@ -16,7 +16,7 @@ use mir.ValLaws.{toZ-ofZ}
 use Rattle.bits.specs.Bytes.{byteOf, flagByte, wordOf}
 use Rattle.bits.specs.Bits.{bitsFrom}
 use Rattle.bits.proofs.FourBytes.{word-back}
-use Rattle.bits.proofs.Spelt.{Every}
+use Rattle.bits.proofs.Spelt.{Every, every-at, every-replicate}
 use Rattle.stereo_indices.specs.Record.{zeros}
 use Rattle.stereo_indices.specs.Rows.{noRow}
 use Rattle.stereo_indices.specs.declared.Record.{Record}
@@ -28,7 +28,7 @@ use Rattle.stereo.specs.declared.Phases.{Phases}
 use Rattle.stereo.specs.declared.Extension.{Extension}
 use Rattle.stereo.specs.declared.Contents.{Contents}
 use Rattle.stereo.specs.declared.State.{State}
-use Rattle.stereo.proofs.TurnLaws.{of-four, every-at, every-replicate}
+use Rattle.stereo.proofs.TurnLaws.{of-four}
 use Rattle.c_layout.specs.Indices.{indexBytes, indicesAt, numbered}
 use Rattle.c_layout.specs.StateBytes.{stateHead, recordBytes, stateBytes, recordAt, stateAt}
 use Rattle.c_layout.specs.ContentsBytes.{rowBytes, answerHead, envelopeBytes, envelopesBytes, answerBytes}

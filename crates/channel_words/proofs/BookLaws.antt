@@ -1,12 +1,12 @@
 -- The table of the books: its rows come in pairs, and what is known of the spectral ones.
 -- Assumes nothing.
-use Prim.Native.Nat.{ℕ, zero, suc, _-_, _≤_, _<_}
+use Prim.Native.Nat.{ℕ, suc, _-_, _≤_, _<_}
 use mathlib.Core.Path.{_≡_, refl, sym, _∙_}
-use mathlib.Core.List.{List, [], _∷_}
+use mathlib.Core.List.{List}
 use native.Mathlib.Omega.{arith}
 use native.Mathlib.Decide.{decLe}
-use lib.ListN.{getD, List·getD-eq-default}
-use Rattle.bits.proofs.Spelt.{Every}
+use lib.ListN.{List·getD-eq-default}
+use Rattle.bits.proofs.Spelt.{every-at}
 use Rattle.tables.specs.GeneratedNames.{tableAt}
 use Rattle.tables.specs.InnerLent.{lookupAt, elements, ChannelTables}
 use Rattle.tables.specs.declared.Lookup.{Lookup}
@@ -17,22 +17,22 @@ use Rattle.channel_words.specs.InnerWords.{BookLookup}
 use Rattle.channel_words.specs.Tuple.{spectralWord}
 use Rattle.channel_words.specs.Books.{Book, book, silentBook, books, bookOf}
 
--- two books that follow each other have the same row, but for the number
-pub pair-is : {dim base offset : ℕ} (k : ℕ) {n : ℕ} → book k dim base offset ≡ bookOf k → book (suc k) dim base offset ≡ bookOf (suc k)
-    → k ≤ n → n ≤ suc k → book n dim base offset ≡ bookOf n
-pair-is k {n} a b h g =
+-- what holds of a number and of the next one holds of either
+either : (P : ℕ → Type 0) (k n : ℕ) → P k → P (suc k) → k ≤ n → n ≤ suc k → P n
+either P k n a b h g =
     elim (decLe n k) [
       | yes d ↦ let q : n ≡ k = omega arith in rw q a
       | no d ↦ let q : n ≡ suc k = omega arith in rw q b
     ]
 
+-- two books that follow each other have the same row, but for the number
+pub pair-is : {dim base offset : ℕ} (k : ℕ) {n : ℕ} → book k dim base offset ≡ bookOf k → book (suc k) dim base offset ≡ bookOf (suc k)
+    → k ≤ n → n ≤ suc k → book n dim base offset ≡ bookOf n
+pair-is {dim} {base} {offset} k {n} a b h g = either (λ n. book n dim base offset ≡ bookOf n) k n a b h g
+
 -- so have their tables, of entries
 pub pair-count : (k m : ℕ) {n : ℕ} → tableAt k .count ≡ m → tableAt (suc k) .count ≡ m → k ≤ n → n ≤ suc k → tableAt n .count ≡ m
-pair-count k m {n} a b h g =
-    elim (decLe n k) [
-      | yes d ↦ let q : n ≡ k = omega arith in rw q a
-      | no d ↦ let q : n ≡ suc k = omega arith in rw q b
-    ]
+pair-count k m {n} a b h g = either (λ n. tableAt n .count ≡ m) k n a b h g
 
 pub no-book : {n : ℕ} → n ≡ 0 → silentBook ≡ bookOf n
 unfolding bookOf books
@@ -53,20 +53,14 @@ Spectral b =
     × (b .base ≤ 17)
     × (b .offset ≤ 4)
 
--- what holds of each book, and of the default, holds of the one at any place
-at-any : (P : Book → Type 0) (bs : List Book) (d : Book) → Every P bs → P d → (i : ℕ) → P (getD bs i d)
-at-any P [] d e p i = p
-at-any P (b ∷ bs) d e p zero = e .0
-at-any P (b ∷ bs) d e p (suc i) = at-any P bs d (e .1) p i
-
 abbrev Sound : Book → Type 0
 Sound b = (b .dim ≡ 0 → ⊥) → Spectral b
 
 -- a book that is not silent is a row from 1 to 11
 pub spectral-book : (n : ℕ) → Sound (bookOf n)
 unfolding bookOf books
-spectral-book =
-    at-any Sound books silentBook (
+spectral-book n =
+    every-at Sound books n silentBook (
       λ h. absurd (h refl),
       (
         λ h. omega arith,

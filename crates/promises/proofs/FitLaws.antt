@@ -20,7 +20,7 @@ use Rattle.bits.specs.Inside.{Fill, leftOver}
 use Rattle.bits.specs.Lists.{padded}
 use Rattle.bits.proofs.Bools.{and-both}
 use Rattle.bits.proofs.Signed.{fits}
-use Rattle.bits.proofs.Spelt.{Every, every-append, leftOver-spelt}
+use Rattle.bits.proofs.Spelt.{Every, every-append, every-replicate, every-at, leftOver-spelt}
 use Rattle.bits.proofs.Gives.{Gives, so-gives, give-gives, bind-gives, then-gives, map-gives, pick-gives, expecting-keeps}
 use Rattle.bits.proofs.Gives.{field-gives, inside-gives, listed-gives}
 use Rattle.stereo_indices.specs.Kind.{bands, least, most, within}
@@ -45,7 +45,6 @@ use Rattle.stereo.specs.declared.Contents.{Contents}
 use Rattle.stereo.specs.declared.Switch.{Switch}
 use Rattle.stereo.specs.declared.Part.{Part}
 use Rattle.stereo.proofs.PayloadNear.{count-le}
-use Rattle.stereo.proofs.TurnLaws.{every-replicate, every-at}
 use Rattle.stereo_laws.proofs.SoundLaws.{set-up, parts}
 use Rattle.c_layout.proofs.StateLaws.{sound-parts}
 use Rattle.stereo_writer.proofs.SpellingLaws.{another-spelt}

@@ -1,11 +1,10 @@
--- Elements of arrays: where an index is in reach, what stands past the end does not count; and what each element has.
+-- Elements of arrays: where an index is in reach, what stands past the end does not count.
 -- Assumes nothing.
 use Prim.Native.Nat.{ℕ, zero, suc, _-_, _<_, _≤_}
 use mathlib.Core.Path.{_≡_, refl}
 use mathlib.Core.List.{List, [], _∷_}
 use native.Mathlib.Omega.{arith}
-use lib.ListN.{length, getD, replicate, List·getD-eq-default}
-use Rattle.bits.proofs.Spelt.{Every}
+use lib.ListN.{length, getD, List·getD-eq-default}
 
 pub getD-there : {A : Type 0} (xs : List A) (i : ℕ) (d e : A) → i < length xs → getD xs i d ≡ getD xs i e
 getD-there [] i d e h = absurd (omega arith)
@@ -27,13 +26,3 @@ of-four z (a ∷ b ∷ []) h = absurd (omega arith)
 of-four z (a ∷ b ∷ c ∷ []) h = absurd (omega arith)
 of-four z (a ∷ b ∷ c ∷ d ∷ []) h = refl
 of-four z (a ∷ b ∷ c ∷ d ∷ e ∷ xs) h = absurd (omega arith)
-
--- what each element has
-pub every-replicate : {A : Type 0} (P : A → Type 0) (n : ℕ) (x : A) → P x → Every P (replicate n x)
-every-replicate P zero x p = tt
-every-replicate P (suc n) x p = (p, every-replicate P n x p)
-
-pub every-at : {A : Type 0} (P : A → Type 0) (xs : List A) (i : ℕ) (d : A) → Every P xs → P d → P (getD xs i d)
-every-at P [] i d p q = q
-every-at P (x ∷ xs) zero d p q = p .0
-every-at P (x ∷ xs) (suc i) d p q = every-at P xs i d (p .1) q

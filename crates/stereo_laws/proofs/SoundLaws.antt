@@ -15,7 +15,7 @@ use Rattle.bits.specs.Loop.{listed}
 use Rattle.bits.specs.Inside.{leftOver}
 use Rattle.bits.specs.Payload.{whole}
 use Rattle.bits.proofs.Bools.{and-both, true-false, and-of}
-use Rattle.bits.proofs.Spelt.{Every, every-append}
+use Rattle.bits.proofs.Spelt.{Every, every-append, every-replicate, every-at}
 use Rattle.bits.proofs.Gives.{Gives, give-gives, bind-gives, then-gives, map-gives, pick-gives, expecting-gives, inside-gives, listed-gives}
 use Rattle.bits.proofs.PayloadLaws.{whole-got}
 use Rattle.stereo_indices.specs.Kind.{fine, bands, least, most, within, inRange}
@@ -28,7 +28,6 @@ use Rattle.stereo_indices.specs.declared.Kind.the-variants.{Iid, Icc, Ipd, Opd}
 use Rattle.stereo_indices.specs.declared.Record.{Record}
 use Rattle.stereo_indices.specs.declared.Row.{Row}
 use Rattle.stereo_indices.proofs.IndexLaws.{index-ranged}
-use Rattle.stereo.proofs.TurnLaws.{every-replicate, every-at}
 use Rattle.stereo.specs.State.{isSent, soundSetup, sound}
 use Rattle.stereo.specs.Header.{noHeader, mode, switch, headerFields, header, setupAfter}
 use Rattle.stereo.specs.Frame.{frame}
