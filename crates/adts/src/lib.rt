@@ -1,4 +1,6 @@
 // ADTS files: a frame read, a frame unwrapped, a channel stream wrapped.
+#![tactic(auto)]
+
 ghost use Rattle.std.specs.Prelude.{◌≡◌, ◌≤◌, length};
 ghost use Rattle.bits.specs.Packed.{bytes_for};
 ghost use Rattle.bits.specs.Payload.{whole};

@@ -1,1 +1,2 @@
 // Laws of ADTS frames alone: no byte outside a frame counts, and wrapping, unwrapping and reading undo each other.
+#![tactic(auto)]

@@ -1,4 +1,6 @@
 // What the bench times word by word: the words of a list, each read where it stands, by a scan of its table or by lookup.
+#![tactic(auto)]
+
 ghost use Rattle.std.specs.Prelude.{◌≡◌, ◌*◌, ◌<◌, ◌≤◌, leb, length, get_or};
 ghost use Rattle.bits.specs.InnerAnswers.{field_answer};
 ghost use Rattle.tables.specs.GeneratedNames.{table_at};

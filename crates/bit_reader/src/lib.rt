@@ -1,4 +1,6 @@
 // A bit reader that keeps a payload and its place together, above the plain one.
+#![tactic(auto)]
+
 ghost use Rattle.std.specs.Prelude.{◌≡◌, ◌<◌, ◌≤◌, ◌*◌, length};
 ghost use Rattle.bits.specs.Field.{field};
 ghost use Rattle.bits.specs.InnerAnswers.{field_answer};

@@ -21,7 +21,7 @@ put-parts s at v m zero = rw (add-zero, div-one)
 put-parts s at v m (suc n) =
     let e : v / 2 / 2 ^ n ≡ v / 2 ^ suc n =
     shr-shr v 1 n ∙ ap (λ (z : ℕ). v / 2 ^ z) (let q : 1 + n ≡ suc n = omega arith in q) in
-    rw (add-suc, ← add_assoc, ← e, put-parts s at (v / 2) m n)
+    rw (add-suc, ← add_assoc, put-parts s at (v / 2) m n, e)
 
 high_bits : (x k m v : ℕ) → replaced_bits x k m v / 2 ^ k ≡ x / 2 ^ (k + m) * 2 ^ m + v % 2 ^ m
 unfolding replaced_bits

@@ -1,4 +1,6 @@
 // Bits of a byte slice, most significant first: fields read, and pieces of bits put.
+#![tactic(auto)]
+
 ghost use Rattle.std.specs.Prelude.{◌≡◌, ◌*◌, ◌-◌, ◌<◌, ◌≤◌, min, length, get_or, leb};
 ghost use Rattle.bits.specs.Bits.{bits_from};
 ghost use Rattle.bits.specs.Reader.{tested};

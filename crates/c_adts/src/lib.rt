@@ -1,4 +1,6 @@
 // Frames of an ADTS file, answered in bytes.
+#![tactic(auto)]
+
 ghost use Rattle.std.specs.Prelude.{◌≡◌, ◌≤◌, ◌<◌, length};
 ghost use Rattle.bits.specs.Bytes.{word_of, over};
 ghost use Rattle.bits.specs.Calls.{returned, answered};

@@ -1,4 +1,6 @@
 // A channel stream, answered in bytes.
+#![tactic(auto)]
+
 ghost use Rattle.std.specs.Prelude.{◌≡◌, ◌≤◌, ◌<◌, ltb, length};
 ghost use Rattle.bits.specs.Reader.{pick};
 ghost use Rattle.bits.specs.Bytes.{over};

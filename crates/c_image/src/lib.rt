@@ -1,4 +1,6 @@
 // A tag image, answered in bytes: its header, the part that a payload is, and the parts of all payloads.
+#![tactic(auto)]
+
 ghost use Rattle.std.specs.Prelude.{◌≡◌, ◌++◌, ◌+◌, ◌*◌, ◌≤◌, length};
 ghost use Rattle.bits.specs.Bytes.{word_of, over};
 ghost use Rattle.image.specs.Image.{header_of};

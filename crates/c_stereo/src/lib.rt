@@ -1,4 +1,6 @@
 // The stereo state and a stereo payload, answered in bytes.
+#![tactic(auto)]
+
 ghost use Rattle.std.specs.Prelude.{◌≡◌, ◌≤◌, ◌<◌, length};
 ghost use Rattle.c_stereo.specs.StateCalls.{FreshStatePromise, ReportMissingPromise};
 ghost use Rattle.bits.specs.Payload.{in_buffer};

@@ -1,5 +1,7 @@
 // The version of the functions for a program in C. The first two of its numbers stand in the function's name too, so that a program
 // which calls it links with no archive of another version.
+#![tactic(auto)]
+
 ghost use Rattle.std.specs.Prelude.{◌≡◌};
 ghost use Rattle.c_version.specs.Version.{VersionPromise};
 

@@ -1,4 +1,6 @@
 // A stereo payload, written from contents and a state that are bytes.
+#![tactic(auto)]
+
 ghost use Rattle.std.specs.Prelude.{◌≡◌};
 ghost use Rattle.bits.specs.Calls.{first_number};
 ghost use Rattle.c_writer.specs.WriteStereo.{write_tests, WriteStereoPromise};

@@ -1,4 +1,6 @@
 // One AAC channel stream: read whole from a range of a lent buffer.
+#![tactic(auto)]
+
 ghost use Rattle.std.specs.Prelude.{◌≡◌, ◌++◌, ◌≤◌, length, drop};
 ghost use Rattle.bits.specs.Payload.{in_buffer, whole};
 ghost use Rattle.bits.specs.Calls.{first_number};

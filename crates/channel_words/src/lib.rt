@@ -1,4 +1,6 @@
 // The words of the spectral books: values by kind of book, with their sign bits and escapes.
+#![tactic(auto)]
+
 pub mod pairs;
 pub mod quads;
 mod signs;

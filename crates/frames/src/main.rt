@@ -1,4 +1,6 @@
 // The frames of an ADTS file on standard input, a line each.
+#![tactic(auto)]
+
 ghost use Rattle.std.specs.Prelude.{◌≤◌, length};
 
 use adts_files::rows::Row;

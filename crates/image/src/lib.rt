@@ -1,4 +1,6 @@
 // The tag image: its header, and the part of it that each payload is.
+#![tactic(auto)]
+
 ghost use Rattle.std.specs.Prelude.{◌≡◌, ◌+◌, ◌*◌, ◌<◌, ◌≤◌, length};
 ghost use Rattle.image.specs.Image.{pair_at, rising, sound_image, header_for, part_of, HeaderPromise, PartPromise};
 

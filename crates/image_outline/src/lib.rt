@@ -1,4 +1,6 @@
 // The outline of a tag image: what each payload answers, in order.
+#![tactic(auto)]
+
 ghost use Rattle.std.specs.Prelude.{◌≡◌, [], ◌∷◌, ◌+◌, ◌*◌, ◌≤◌, ◌<◌, length, replicate};
 ghost use Rattle.image.specs.Image.{header_of};
 ghost use Rattle.bits.specs.Bytes.{over};

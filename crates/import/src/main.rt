@@ -1,4 +1,6 @@
 // A tag image of the frames of an ADTS file on standard input.
+#![tactic(auto)]
+
 ghost use Rattle.std.specs.Prelude.{◌+◌, ◌*◌, ◌≤◌, ◌≡◌, length};
 
 use heading::put_heading;

@@ -1,4 +1,6 @@
 // A tag image on standard input, printed: the line of each payload, and in full what it holds and the stereo state after it.
+#![tactic(auto)]
+
 ghost use Rattle.std.specs.Prelude.{◌≡◌, ◌≤◌, ◌<◌, length};
 ghost use Rattle.image.specs.Image.{header_of, part_of, bytes_of};
 ghost use Rattle.image_outline.specs.Answers.{state_from};

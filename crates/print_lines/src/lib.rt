@@ -1,5 +1,7 @@
 // The lines that the programs print: of each payload one in the listing; of each frame of an ADTS file one; and why no image is made of a
 // file. A form is words with a mark `#` in place of each number.
+#![tactic(auto)]
+
 ghost use Rattle.std.specs.Prelude.{◌≡◌, ◌*◌, ◌<◌, ◌≤◌, length};
 ghost use Rattle.print_lines.specs.InnerText.{line_of, with_text, form_text, HoldsLine};
 ghost use Rattle.print_lines.specs.InnerListing.{refused_image, payload_count, refusal_text, refused_line, accepted_line, payload_line};

@@ -1,1 +1,2 @@
 // The demands as theorems: definitions and laws alone.
+#![tactic(auto)]

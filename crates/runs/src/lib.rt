@@ -1,1 +1,2 @@
 // Runs of payloads and reports: definitions and laws alone.
+#![tactic(auto)]

@@ -1,4 +1,6 @@
 // The lines of a channel stream that sound, and lines of which none does.
+#![tactic(auto)]
+
 ghost use Rattle.std.specs.Prelude.{◌≡◌, pos, replicate};
 ghost use Rattle.sounding.specs.Sounding.{sounding};
 

@@ -1,4 +1,6 @@
 // The stereo state, a payload's fields and contents, and what is carried on.
+#![tactic(auto)]
+
 use bits::Ended;
 use stereo_indices::{Record, Row};
 

@@ -1,4 +1,6 @@
 // Difference coding: the indices of one kind, from words and from the record that an earlier envelope left.
+#![tactic(auto)]
+
 use bits::Ended;
 
 pub mod indices;

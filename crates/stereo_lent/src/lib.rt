@@ -1,4 +1,6 @@
 // The stereo reader over a state that is lent: the caller keeps one state, and each call leaves the next one in it.
+#![tactic(auto)]
+
 ghost use Rattle.std.specs.Prelude.{◌≡◌};
 ghost use Rattle.bits.specs.Payload.{range_in};
 ghost use Rattle.stereo_reader.specs.Reading.{read_from};

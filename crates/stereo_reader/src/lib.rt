@@ -1,4 +1,6 @@
 // The stereo reader: a payload in step or out of step, and a payload reported missing.
+#![tactic(auto)]
+
 ghost use Rattle.std.specs.Prelude.{◌≡◌, ◌||◌};
 ghost use Rattle.stereo.specs.State.{lost};
 ghost use Rattle.stereo.specs.Restart.{restart};

@@ -1,4 +1,6 @@
 // The stereo writer: contents and a state in, a payload's bytes and the next state out.
+#![tactic(auto)]
+
 use stereo::State;
 
 mod extensions;

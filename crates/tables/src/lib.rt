@@ -1,5 +1,7 @@
 // The 22 code tables. Whoever reads words makes the lookups of his half once, and lends them to every reader below; whoever writes them
 // makes their words.
+#![tactic(auto)]
+
 ghost use Rattle.std.specs.Prelude.{◌≡◌, [], ◌∷◌, ◌*◌, ◌≤◌, ◌<◌, length, get_or};
 ghost use Rattle.bits.specs.InnerAnswers.{field_answer};
 ghost use Rattle.bits.specs.Pieces.{piece};
