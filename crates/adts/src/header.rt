@@ -8,7 +8,7 @@ use bits::bits_at;
 use bits::calls::is_known_index;
 
 // A header that was judged: a refusal's number, or 0 with the sampling index and the frame's length in bytes.
-#[derive(Drop)]
+#[derive(Clone, Copy)]
 pub struct Header {
     pub number: u8,
     pub index: u8,

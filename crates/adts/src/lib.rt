@@ -25,7 +25,7 @@ mod header;
 mod wrapping;
 
 // What a call found of a frame: its sampling index and its length in bytes where its header is accepted, and the reading of its stream.
-#[derive(Drop)]
+#[derive(Clone, Copy)]
 pub struct Framed {
     pub index: u8,
     pub length: usize,
@@ -33,7 +33,7 @@ pub struct Framed {
 }
 
 // What wrapping gave: a refusal's number and the bit at which the stream was refused, or 0 with the frame's length in bytes.
-#[derive(Drop)]
+#[derive(Clone, Copy)]
 pub struct Wrapped {
     pub number: u8,
     pub place: usize,

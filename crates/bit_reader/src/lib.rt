@@ -9,14 +9,14 @@ ghost use Rattle.bit_reader.specs.Took.{last_place, HoldPromise, TookAtPromise, 
 use bits::Field;
 
 // The payload, and the place of the next bit.
-#[derive(Drop)]
+#[derive(Clone, Copy)]
 pub struct BitReader<'a> {
     pub src: &'a [u8],
     pub at: usize,
 }
 
 // A field that was taken: number 0, its value and the next place; or a refusal's number, 0 and the place as it was.
-#[derive(Drop)]
+#[derive(Clone, Copy)]
 pub struct Took {
     pub number: u8,
     pub value: u32,

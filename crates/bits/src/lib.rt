@@ -13,14 +13,14 @@ pub mod window;
 pub mod write;
 
 // What reading a field or a word finds: its value and the next place, or a refusal and the place of the field judged.
-#[derive(Drop)]
+#[derive(Clone, Copy)]
 pub enum Field {
     Got(u32, usize),
     Refused(u8, usize),
 }
 
 // How a reading into a lent array ends: the next place, or a refusal and the place of the field judged.
-#[derive(Drop)]
+#[derive(Clone, Copy)]
 pub enum Ended {
     At(usize),
     Refused(u8, usize),

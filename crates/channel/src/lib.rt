@@ -16,7 +16,7 @@ pub mod stream;
 
 // What a call found: 0 and the numbers of a stream, with the windows of each group and the bits used; or a refusal's number and the bit
 // at which it was refused.
-#[derive(Drop)]
+#[derive(Clone, Copy)]
 pub struct Reading {
     pub number: u8,
     pub place: usize,

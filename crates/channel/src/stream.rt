@@ -21,14 +21,14 @@ use channel_side::sections::read_books;
 use channel_side::window::{Window, no_window, read_window};
 
 // global_gain and the window information.
-#[derive(Drop)]
+#[derive(Clone, Copy)]
 pub struct Head {
     pub gain: u8,
     pub window: Window,
 }
 
 // A head that was read, and how the reading that it begins ended.
-#[derive(Drop)]
+#[derive(Clone, Copy)]
 pub struct ReadHead {
     pub ended: Ended,
     pub head: Head,

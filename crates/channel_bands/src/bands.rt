@@ -15,7 +15,7 @@ const EDGES: [usize; 129] = [
 ];
 
 // Where the bands of an index stand in the edges.
-#[derive(Drop)]
+#[derive(Clone, Copy)]
 pub struct Part {
     pub first: usize,
     pub last: usize,

@@ -3,7 +3,7 @@ ghost use Rattle.std.specs.Prelude.{◌≡◌, ◌∷◌, ◌+◌, ◌-◌, ◌<
 ghost use Rattle.channel_bands.specs.Grouping.{groups_after, groups_of, in_eight};
 
 // How many groups there are, and the windows of each, 0 past the last.
-#[derive(Drop)]
+#[derive(Clone, Copy)]
 pub struct Groups {
     pub count: usize,
     pub windows: [u8; 8],

@@ -15,7 +15,7 @@ use channel_words::pairs::{read_signed_pairs, read_unsigned_pairs};
 use channel_words::quads::{read_signed_quads, read_unsigned_quads};
 
 // A group of windows: where its books start, its first window, and how many windows it has.
-#[derive(Drop)]
+#[derive(Clone, Copy)]
 pub struct Group {
     base: usize,
     from: usize,

@@ -9,7 +9,7 @@ ghost use Rattle.channel_side.specs.Pulses.{pulsed, changed, apply_pulses};
 use bits::{Ended, Field};
 
 // The pulses of a stream: how many there are, and in four places the line, the amplitude and the place of each.
-#[derive(Drop)]
+#[derive(Clone, Copy)]
 pub struct Pulses {
     pub count: usize,
     pub lines: [u32; 4],
@@ -18,14 +18,14 @@ pub struct Pulses {
 }
 
 // Pulses that were read, and how the reading ended.
-#[derive(Drop)]
+#[derive(Clone, Copy)]
 pub struct ReadPulses {
     pub ended: Ended,
     pub pulses: Pulses,
 }
 
 // Pulses so far: the line that the next offset counts from; and in four places the line, the amplitude and the place of each.
-#[derive(Drop)]
+#[derive(Clone, Copy)]
 pub struct Laid {
     pub last: u32,
     pub lines: [u32; 4],
@@ -34,7 +34,7 @@ pub struct Laid {
 }
 
 // Pulses so far, and how the reading of the newest ended.
-#[derive(Drop)]
+#[derive(Clone, Copy)]
 pub struct ReadLaid {
     pub ended: Ended,
     pub laid: Laid,

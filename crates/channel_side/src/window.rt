@@ -7,7 +7,7 @@ ghost use Rattle.channel_side.specs.Window.{window_sequence, max_sfb_of, groupin
 use bits::{Ended, Field};
 
 // Window sequence and shape, max_sfb, and the grouping bits, which are 0 where windows are long.
-#[derive(Drop)]
+#[derive(Clone, Copy)]
 pub struct Window {
     pub sequence: u8,
     pub shape: u8,
@@ -16,7 +16,7 @@ pub struct Window {
 }
 
 // Window information that was read, and how the reading ended.
-#[derive(Drop)]
+#[derive(Clone, Copy)]
 pub struct ReadWindow {
     pub ended: Ended,
     pub window: Window,

@@ -13,7 +13,7 @@ use bits::{Ended, Field, window};
 use words::{escape, lookup};
 
 // Two numbers with a sign bit each.
-#[derive(Drop)]
+#[derive(Clone, Copy)]
 struct Pair {
     first: u32,
     first_sign: u32,
@@ -22,7 +22,7 @@ struct Pair {
 }
 
 // How the reading of a word and its sign bits ends, and the numbers.
-#[derive(Drop)]
+#[derive(Clone, Copy)]
 struct ReadPair {
     ended: Ended,
     pair: Pair,

@@ -5,7 +5,7 @@ ghost use Rattle.std.specs.Prelude.{◌≡◌, ◌+◌, ◌*◌, ◌<◌, ◌≤
 ghost use Rattle.image.specs.Image.{pair_at, rising, sound_image, header_for, part_of, HeaderPromise, PartPromise};
 
 // What an image's header says: a refusal's number, or 0 with the payload count and the sampling index.
-#[derive(Drop)]
+#[derive(Clone, Copy)]
 pub struct Header {
     pub number: u8,
     pub count: usize,
@@ -13,7 +13,7 @@ pub struct Header {
 }
 
 // Where a payload stands in an image: a refusal's number, or 0 with its range of bytes.
-#[derive(Drop)]
+#[derive(Clone, Copy)]
 pub struct Part {
     pub number: u8,
     pub start: usize,

@@ -12,7 +12,7 @@ use sounding::{count_sounding, no_lines};
 use stereo::{State, states};
 
 // The five numbers of a payload: its refusal and the bit at which it was refused, or 0, and what it holds.
-#[derive(Drop)]
+#[derive(Clone, Copy)]
 pub struct Row {
     pub number: usize,
     pub place: usize,
@@ -66,7 +66,7 @@ fn put_row(rows: &mut [usize], at: usize, row: Row)
 }
 
 // A payload's row, and the stereo state after it.
-#[derive(Drop)]
+#[derive(Clone, Copy)]
 struct Turn {
     row: Row,
     state: State,

@@ -10,7 +10,7 @@ pub mod rows;
 pub mod steps;
 
 // Level and coherence, and the two phases.
-#[derive(Drop)]
+#[derive(Clone, Copy)]
 pub enum Kind {
     Iid,
     Icc,
@@ -19,42 +19,42 @@ pub enum Kind {
 }
 
 // A kind's record: the mode that it was coded in, 7 for none, and its indices.
-#[derive(Drop)]
+#[derive(Clone, Copy)]
 pub struct Record {
     pub mode: u32,
     pub indices: [i8; 34],
 }
 
 // One kind in one envelope: its time flag, and its indices.
-#[derive(Drop)]
+#[derive(Clone, Copy)]
 pub struct Row {
     pub time: u32,
     pub indices: [i8; 34],
 }
 
 // What reading an index finds: the index and the next place, or a refusal and the place of the word judged.
-#[derive(Drop)]
+#[derive(Clone, Copy)]
 pub enum Index {
     To(i8, usize),
     Refused(u8, usize),
 }
 
 // How the reading of indices ends, and the indices.
-#[derive(Drop)]
+#[derive(Clone, Copy)]
 pub struct ReadIndices {
     pub ended: Ended,
     pub indices: [i8; 34],
 }
 
 // How the reading of a row ends, and the row.
-#[derive(Drop)]
+#[derive(Clone, Copy)]
 pub struct ReadRow {
     pub ended: Ended,
     pub row: Row,
 }
 
 // How the reading of the rows of four envelopes ends, and the rows.
-#[derive(Drop)]
+#[derive(Clone, Copy)]
 pub struct ReadRows {
     pub ended: Ended,
     pub rows: [Row; 4],

@@ -9,7 +9,7 @@ ghost use Rattle.stereo_lent.specs.Lent.{apart_of, LentReadPromise, LentMissingP
 use stereo::{Contents, State};
 
 // The answer to a payload: the refusal and the bit at which it was refused, or 0, how many bits it used, and its contents.
-#[derive(Drop)]
+#[derive(Clone, Copy)]
 pub struct Answer {
     pub number: u8,
     pub place: usize,
@@ -18,7 +18,7 @@ pub struct Answer {
 }
 
 // The next state, and the answer beside it.
-#[derive(Drop)]
+#[derive(Clone, Copy)]
 struct Apart {
     state: State,
     answer: Answer,

@@ -10,7 +10,7 @@ use bits::Ended;
 use stereo::{Contents, State, payloads, states, turns};
 
 // The answer to a payload: the refusal and the bit at which it was refused, or 0, how many bits it used, its contents, and the next state.
-#[derive(Drop)]
+#[derive(Clone, Copy)]
 pub struct Reading {
     pub number: u8,
     pub place: usize,
@@ -20,7 +20,7 @@ pub struct Reading {
 }
 
 // The answer to a report: the refusal, or 0, and the next state.
-#[derive(Drop)]
+#[derive(Clone, Copy)]
 pub struct Report {
     pub number: u8,
     pub state: State,

@@ -11,7 +11,7 @@ mod same;
 pub mod writing;
 
 // The answer to a writing: the refusal, or 0, how many bits were written, and the next state.
-#[derive(Drop)]
+#[derive(Clone, Copy)]
 pub struct Written {
     pub number: u8,
     pub bits: usize,
@@ -19,7 +19,7 @@ pub struct Written {
 }
 
 // Contents, spelled: how many bits, and whether they are read back.
-#[derive(Drop)]
+#[derive(Clone, Copy)]
 pub struct Spelled {
     pub bits: usize,
     pub can: bool,

@@ -15,7 +15,7 @@ use bits::Field;
 mod generated_lent;
 
 // Where the lookup of a table stands among those that are lent, and how many bits choose its first element.
-#[derive(Drop)]
+#[derive(Clone, Copy)]
 pub struct Lookup {
     pub first: usize,
     pub last: usize,
@@ -23,7 +23,7 @@ pub struct Lookup {
 }
 
 // A word, as a number of so many bits.
-#[derive(Drop)]
+#[derive(Clone, Copy)]
 pub struct Word {
     pub code: u32,
     pub len: u8,
