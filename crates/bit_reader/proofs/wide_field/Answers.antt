@@ -17,8 +17,7 @@ returns-in_default c =
 pub returns-in_default-read_field : goal.returns-in_default-read_field
 returns-in_default-read_field c =
     let first-is : let x = c.args in
-    let high = c.high-1.given.0 in
-    field (x.n - 20) x.src.now x.at x.end ≡ got high.0 high.1.0 = answered c.read_field.ensures c.in-Got.is in
+    field (x.n - 20) x.src.now x.at x.end ≡ got c.in-Got.high c.in-Got.middle = answered c.read_field.ensures c.in-Got.is in
     let at_second = c in
     let entry = at_second in
     let x = entry.args in
@@ -28,12 +27,9 @@ returns-in_default-read_field c =
 pub overflow_mul-result : goal.overflow_mul-result
 overflow_mul-result c =
     let first-is : let x = c.args in
-    let high = c.high-1.given.0 in
-    field (x.n - 20) x.src.now x.at x.end ≡ got high.0 high.1.0 = answered c.read_field.ensures c.in-Got.is in
+    field (x.n - 20) x.src.now x.at x.end ≡ got c.in-Got.high c.in-Got.middle = answered c.read_field.ensures c.in-Got.is in
     let second_is : let x = c.args in
-    let high = c.high-1.given.0 in
-    let low = c.low-1.given.0 in
-    field 20 x.src.now high.1.0 x.end ≡ got low.0 low.1.0 = answered c.read_field-2.ensures c.in-Got-read_field.is in
+    field 20 x.src.now c.in-Got.middle x.end ≡ got c.in-Got-read_field.low c.in-Got-read_field.next = answered c.read_field-2.ensures c.in-Got-read_field.is in
     -- the halves have at most 12 and 20 bits
     let below : (c.in-Got.high < 4096) × (c.in-Got-read_field.low < 1048576) = let entry = c in
     let x = entry.args in
@@ -43,12 +39,9 @@ overflow_mul-result c =
 pub overflow_add-result : goal.overflow_add-result
 overflow_add-result c =
     let first-is : let x = c.args in
-    let high = c.high-1.given.0 in
-    field (x.n - 20) x.src.now x.at x.end ≡ got high.0 high.1.0 = answered c.read_field.ensures c.in-Got.is in
+    field (x.n - 20) x.src.now x.at x.end ≡ got c.in-Got.high c.in-Got.middle = answered c.read_field.ensures c.in-Got.is in
     let second_is : let x = c.args in
-    let high = c.high-1.given.0 in
-    let low = c.low-1.given.0 in
-    field 20 x.src.now high.1.0 x.end ≡ got low.0 low.1.0 = answered c.read_field-2.ensures c.in-Got-read_field.is in
+    field 20 x.src.now c.in-Got.middle x.end ≡ got c.in-Got-read_field.low c.in-Got-read_field.next = answered c.read_field-2.ensures c.in-Got-read_field.is in
     -- the halves have at most 12 and 20 bits
     let below : (c.in-Got.high < 4096) × (c.in-Got-read_field.low < 1048576) = let entry = c in
     let x = entry.args in
@@ -58,12 +51,9 @@ overflow_add-result c =
 pub returns : goal.returns
 returns c =
     let first-is : let x = c.args in
-    let high = c.high-1.given.0 in
-    field (x.n - 20) x.src.now x.at x.end ≡ got high.0 high.1.0 = answered c.read_field.ensures c.in-Got.is in
+    field (x.n - 20) x.src.now x.at x.end ≡ got c.in-Got.high c.in-Got.middle = answered c.read_field.ensures c.in-Got.is in
     let second_is : let x = c.args in
-    let high = c.high-1.given.0 in
-    let low = c.low-1.given.0 in
-    field 20 x.src.now high.1.0 x.end ≡ got low.0 low.1.0 = answered c.read_field-2.ensures c.in-Got-read_field.is in
+    field 20 x.src.now c.in-Got.middle x.end ≡ got c.in-Got-read_field.low c.in-Got-read_field.next = answered c.read_field-2.ensures c.in-Got-read_field.is in
     let entry = c in
     let x = entry.args in
     both x.n _ x.at x.end entry.requires.1 first-is second_is
