@@ -6,54 +6,53 @@ use borrow.Author.Tests.{ne_eqb}
 use Rattle.channel_words.specs.Books.{books, book_of}
 use Rattle.channel_words.proofs.BookLaws.{pair_is, pair_count}
 use Rattle.channel_lines.proofs.SpectrumLaws.{band-by, band-pairs, band-escaped}
-use Rattle.channel_lines.proofs.lines.read_spectral_band.Statement.{statement}
-use Rattle.channel_lines.proofs.lines.read_spectral_band.Tie as tie
+use Rattle.channel_lines.proofs.lines.read_spectral_band.Goals as goal
 
-read-signed-quads-requires : tie.Need-read-signed-quads-requires
-read-signed-quads-requires c κs =
-    let a = c.before.before.before.before in
+pub read_signed_quads-requires : goal.read_signed_quads-requires
+read_signed_quads-requires c =
+    let a = c in
     (a.requires.0, rw (pair_count 1 81 {n = a.args.number} refl refl (omega arith) (omega arith)) at a.requires.1.readable, omega arith)
 
-returns : tie.Need-returns
+pub returns-then-number-le2 : goal.returns-then-number-le2
 unfolding books book_of
-returns c =
-    let a = c.before.before.before.before.before in
+returns-then-number-le2 c =
+    let a = c in
     let other : a.args.number ≡ 11 → ⊥ = λ e. omega arith in
-    c.read-signed-quads.ensures
+    c.read_signed_quads.ensures
     ∙ band-by _ a.args.number _ _ _ _ _ _ a.requires.1.reads 4 3 1 (pair_is 1 refl refl (omega arith) (omega arith)) refl
     (ne_eqb _ _ other)
 
-read-unsigned-quads-requires : tie.Need-read-unsigned-quads-requires
-read-unsigned-quads-requires c κs =
-    let a = c.before.before.before.before.before in
+pub read_unsigned_quads-requires : goal.read_unsigned_quads-requires
+read_unsigned_quads-requires c =
+    let a = c in
     (a.requires.0, rw (pair_count 3 81 {n = a.args.number} refl refl (omega arith) (omega arith)) at a.requires.1.readable, omega arith)
 
-returns-2 : tie.Need-returns-2
+pub returns-then-number-le4 : goal.returns-then-number-le4
 unfolding books book_of
-returns-2 c =
-    let a = c.before.before.before.before.before.before in
+returns-then-number-le4 c =
+    let a = c in
     let other : a.args.number ≡ 11 → ⊥ = λ e. omega arith in
-    c.read-unsigned-quads.ensures
+    c.read_unsigned_quads.ensures
     ∙ band-by _ a.args.number _ _ _ _ _ _ a.requires.1.reads 4 3 0 (pair_is 3 refl refl (omega arith) (omega arith)) refl
     (ne_eqb _ _ other)
 
-read-signed-pairs-requires : tie.Need-read-signed-pairs-requires
-read-signed-pairs-requires c κs =
-    let a = c.before.before.before.before.before.before in
+pub read_signed_pairs-requires : goal.read_signed_pairs-requires
+read_signed_pairs-requires c =
+    let a = c in
     (a.requires.0, rw (pair_count 5 81 {n = a.args.number} refl refl (omega arith) (omega arith)) at a.requires.1.readable, omega arith)
 
-returns-3 : tie.Need-returns-3
+pub returns-then-number-le6 : goal.returns-then-number-le6
 unfolding books book_of
-returns-3 c =
-    let a = c.before.before.before.before.before.before.before in
+returns-then-number-le6 c =
+    let a = c in
     let other : a.args.number ≡ 11 → ⊥ = λ e. omega arith in
-    c.read-signed-pairs.ensures
+    c.read_signed_pairs.ensures
     ∙ band-by _ a.args.number _ _ _ _ _ _ a.requires.1.reads 2 9 4 (pair_is 5 refl refl (omega arith) (omega arith)) refl
     (ne_eqb _ _ other)
 
-read-unsigned-pairs-requires : tie.Need-read-unsigned-pairs-requires
-read-unsigned-pairs-requires c κs =
-    let a = c.before.before.before.before.before.before.before in (
+pub read_unsigned_pairs-requires : goal.read_unsigned_pairs-requires
+read_unsigned_pairs-requires c =
+    let a = c in (
       a.requires.0,
       rw (pair_count 7 64 {n = a.args.number} refl refl (omega arith) (omega arith)) at
           a.requires.1.readable,
@@ -61,19 +60,19 @@ read-unsigned-pairs-requires c κs =
       omega arith,
     )
 
-returns-4 : tie.Need-returns-4
+pub returns-then-number-le8 : goal.returns-then-number-le8
 unfolding books book_of
-returns-4 c =
-    let a = c.before.before.before.before.before.before.before.before in
+returns-then-number-le8 c =
+    let a = c in
     let other : a.args.number ≡ 11 → ⊥ = λ e. omega arith in
-    c.read-unsigned-pairs.ensures
+    c.read_unsigned_pairs.ensures
     ∙ band-pairs _ a.args.number _ _ _ _ _ _ a.requires.1.reads 8 (omega arith) (omega arith) (pair_is 7 refl refl
     (omega arith) (omega arith))
     (ne_eqb _ _ other)
 
-read-unsigned-pairs-requires-2 : tie.Need-read-unsigned-pairs-requires-2
-read-unsigned-pairs-requires-2 c κs =
-    let a = c.before.before.before.before.before.before.before.before in (
+pub read_unsigned_pairs-requires-then-number-le10 : goal.read_unsigned_pairs-requires-then-number-le10
+read_unsigned_pairs-requires-then-number-le10 c =
+    let a = c in (
       a.requires.0,
       rw (pair_count 9 169 {n = a.args.number} refl refl (omega arith) (omega arith)) at a.requires.1.readable,
       inr
@@ -81,30 +80,23 @@ read-unsigned-pairs-requires-2 c κs =
       omega arith,
     )
 
-returns-5 : tie.Need-returns-5
+pub returns-then-number-le10 : goal.returns-then-number-le10
 unfolding books book_of
-returns-5 c =
-    let a = c.before.before.before.before.before.before.before.before.before in
+returns-then-number-le10 c =
+    let a = c in
     let other : a.args.number ≡ 11 → ⊥ = λ e. omega arith in
-    c.read-unsigned-pairs2.ensures
+    c.read_unsigned_pairs-then-number-le10.ensures
     ∙ band-pairs _ a.args.number _ _ _ _ _ _ a.requires.1.reads 13 (omega arith) (omega arith) (pair_is 9 refl refl
     (omega arith) (omega arith))
     (ne_eqb _ _ other)
 
-read-unsigned-pairs-requires-3 : tie.Need-read-unsigned-pairs-requires-3
-read-unsigned-pairs-requires-3 c κs =
-    let a = c.before.before.before.before.before.before.before.before in
+pub read_unsigned_pairs-requires-2 : goal.read_unsigned_pairs-requires-2
+read_unsigned_pairs-requires-2 c =
+    let a = c in
     let e : a.args.number ≡ 11 = omega arith in
     (a.requires.0, rw e at a.requires.1.readable, inr (inr refl), omega arith)
 
-returns-6 : tie.Need-returns-6
-returns-6 c =
-    let a = c.before.before.before.before.before.before.before.before.before in
-    c.read-unsigned-pairs3.ensures ∙ band-escaped _ a.args.number _ _ _ _ _ _ a.requires.1.reads (omega arith)
-
-pub read-spectral-band-spec : {M : Type 1} → statement M
-read-spectral-band-spec =
-    tie.close
-    (tie.spec read-signed-quads-requires returns read-unsigned-quads-requires returns-2 read-signed-pairs-requires returns-3
-    read-unsigned-pairs-requires returns-4 read-unsigned-pairs-requires-2 returns-5
-    read-unsigned-pairs-requires-3 returns-6)
+pub returns : goal.returns
+returns c =
+    let a = c in
+    c.read_unsigned_pairs-2.ensures ∙ band-escaped _ a.args.number _ _ _ _ _ _ a.requires.1.reads (omega arith)
