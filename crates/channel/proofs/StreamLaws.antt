@@ -14,7 +14,7 @@ use Rattle.channel_bands.specs.InnerBands.{all_edges}
 use Rattle.channel_lines.specs.Spectrum.{group_lines, spectrum}
 use Rattle.channel.specs.InnerAnswers.{HoldsLines, HoldsStream}
 use Rattle.channel_side.specs.declared.window.Window.{Window}
-use Rattle.channel_side.specs.Window.{is_short, max_sfb, groups, window}
+use Rattle.channel_side.specs.Window.{is_short, max_sfb, groups}
 use Rattle.channel_side.specs.Sections.{group_books, width_of, sections}
 use Rattle.channel_side.specs.Factors.{first_factors, scale_factors}
 use Rattle.channel_side.specs.declared.pulses.Pulses.{Pulses}

@@ -163,9 +163,9 @@ pub fn read_channel(
         (record {
           payload = record { bytes = buf.now; start = start; end = end };
           index = index;
-          outputs = record { lines = lines.entry.now; factors = factors.old; books = books.old };
+          outputs = record { lines = lines.old; factors = factors.old; books = books.old };
         })
-        result (record { lines = lines.exit.now; factors = factors.new; books = books.new }) }
+        result (record { lines = lines.new; factors = factors.new; books = books.new }) }
 {
     let room = outputs_fit(lines.len(), factors.len(), books.len());
     let number = channel_refusal(buf.len(), start, end, room, index);
