@@ -109,11 +109,11 @@ pub fn read_frame(
 ) -> Framed
     ensures { ReadFramePromise
         (record {
-          file = file.entry.now;
+          file = file.now;
           start = start;
-          outputs = record { lines = lines.entry.now; factors = factors.old; books = books.old };
+          outputs = record { lines = lines.old; factors = factors.old; books = books.old };
         })
-        result (record { lines = lines.exit.now; factors = factors.new; books = books.new }) }
+        result (record { lines = lines.new; factors = factors.new; books = books.new }) }
 {
     if file.len() < start {
         return unframed(1);
