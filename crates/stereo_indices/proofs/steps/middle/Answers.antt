@@ -2,17 +2,12 @@
 use mathlib.Core.Path.{◌∙◌}
 use native.Mathlib.Omega.{arith}
 use mir.Syntax.{w16}
-use borrow.Author.Rules.{rules}
 use Rattle.stereo_indices.specs.Difference.{middle}
 use Rattle.stereo_indices.proofs.KindLaws.{through, pos-by-kind, middle-le}
-use Rattle.stereo_indices.proofs.steps.middle.Statement.{statement}
-use Rattle.stereo_indices.proofs.steps.middle.Tie as tie
+use Rattle.stereo_indices.proofs.steps.middle.Goals as goal
 
-returns : tie.Need-returns
+pub returns : goal.returns
 unfolding middle
 returns c =
-    let a = c.before.args in
+    let a = c.args in
     through w16 30 (c.by_kind.ensures ∙ pos-by-kind a.kind a.mode 30 14 7 0) (middle-le a.kind a.mode) (omega arith)
-
-pub middle-spec : {M : Type 1} → statement M
-middle-spec = tie.close (tie.spec (λ c κs. search rules) returns)
