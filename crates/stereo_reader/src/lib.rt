@@ -117,7 +117,7 @@ pub fn read_bytes(state: State, s: &[u8]) -> Reading
 
 // A payload in a range of a buffer: what it holds, how many bits it used, and the next state.
 pub fn read(state: State, bytes: &[u8], start: usize, end: usize) -> Reading
-    ensures { ReadPromise state (record { bytes = bytes.entry.now; start = start; end = end }) result }
+    ensures { ReadPromise state (record { bytes = bytes.now; start = start; end = end }) result }
 {
     if end < start {
         return refused(1, state);
