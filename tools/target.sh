@@ -86,7 +86,7 @@ crates_of() {
             print name
         }
         { sub(/#.*/, ""); colon = index($0, ":") }
-        colon { name = substr($0, 1, colon - 1); gsub(/[ \t]/, "", name); needs[name] = substr($0, colon + 1) }
+        colon { split(substr($0, 1, colon - 1), named, " "); needs[named[1]] = substr($0, colon + 1) }
         END { n = split(ENVIRON["WANTED"], wanted, " "); for (k = 1; k <= n; k++) visit(wanted[k]) }' crates.txt
 }
 
@@ -95,24 +95,24 @@ sum() {
     sha256sum | cut -d ' ' -f 1
 }
 
-# sources_of NAME: one number for all that a program is made of.
+# sources_of NAME: one number for all that a program or an archive is made of.
 sources_of() {
     crates=$(crates_of "$1")
     {
-        for crate in $crates; do grep "^[[:space:]]*$crate[[:space:]]*:" crates.txt; done
+        for crate in $crates; do grep "^[[:space:]]*$crate[[:space:]:]" crates.txt; done
         # shellcheck disable=SC2086
-        (cd crates && find $crates -type f ! -path '*/must-fail/*' -exec sha256sum {} + 2>/dev/null) | LC_ALL=C sort
+        (cd crates && find $crates -type f ! -path '*/must-fail/*' ! -path '*/out/*' -exec sha256sum {} + 2>/dev/null) | LC_ALL=C sort
     } | sum
 }
 
 # kit_home: the kit's folder.
 kit_home() {
-    dirname "$(dirname "$(rt doc)")"
+    dirname "$(rt doc)"
 }
 
-# kit_command: where rt is, and the folder that its user may have set for it.
+# kit_command: where rt is.
 kit_command() {
-    echo "$(readlink -f "$(command -v rt)") ${RATTLE_HOME:-}"
+    readlink -f "$(command -v rt)"
 }
 
 # kit_name HOME: which kit it is.
@@ -133,11 +133,10 @@ is_fresh() {
     [ "$(recorded "$1" rt)" = "$(kit_command)" ] && [ "$(recorded "$1" kit)" = "$(kit_name "$(recorded "$1" home)")" ]
 }
 
-# record NAME SOURCES: what a program was built of, and what it takes to run it.
+# record NAME SOURCES: what a program was built of, and what it takes to run it. On another machine than x86-64 an emulator runs it.
 record() {
     home=$(kit_home)
-    chain=$home/on/$(uname -m)/toolchain
-    emulator=$chain/bin/qemu-x86_64
+    libraries=$home/toolchain/lib
     mkdir -p target/built || return 1
     {
         echo "sources $2"
@@ -145,45 +144,47 @@ record() {
         echo "rt $(kit_command)"
         echo "home $home"
         echo "kit $(kit_name "$home")"
-        [ ! -x "$emulator" ] || echo "emulator $emulator"
-        echo "loader $chain/lib/ld-linux-x86-64.so.2"
-        echo "libraries $chain/lib"
+        [ "$(uname -m)" = x86_64 ] || echo "emulator $(command -v qemu-x86_64)"
+        echo "loader $libraries/ld-linux-x86-64.so.2"
+        echo "libraries $libraries"
     } >"target/built/$1.new" && mv "target/built/$1.new" "target/built/$1"
 }
 
-# forget NAME: the kit's stamps of what is gone or is not as it was built, since the kit builds nothing that has its stamp.
-forget() {
-    for crate in $(crates_of "$1"); do
-        [ -e "target/rlib/$crate.rlib" ] || [ -x "target/bin/$crate" ] || rm -f "target/stamp/$crate"
-    done
-    [ -f "target/built/$1" ] && [ -f "target/bin/$1" ] || return 0
-    [ "$(recorded "$1" program)" = "$(sum <"target/bin/$1")" ] || rm -f "target/stamp/$1"
-}
-
-# tell LEFT: the prover's account on standard input, as a line a crate with how many are left; the answer is the prover's status.
+# tell NAME: the prover's account on standard input, as a line for each crate that it proved, with how many come after it; the answer is
+# the prover's status. What is unchanged is not in the account.
 tell() {
-    left=$1 ended=2
+    crates=$(crates_of "$1") proved='' told='' ended=2 began=$(date +%s)
     while IFS= read -r line; do
         case $line in
         'status '*) ended=${line#status } ;;
-        'rt: '*' proved (unchanged '*) left=$((left - 1)) ;;
-        'rt: '*' proved ('*)
-            left=$((left - 1))
-            say "${line#rt: }, $left left"
+        'crate '*': modules '*) proved=${line#crate } proved=${proved%%:*} ;;
+        'logic=proved '*)
+            [ "$proved" != "$told" ] || continue
+            now=$(date +%s)
+            say "$proved proved ($((now - began)) s), $(echo "$crates" | sed "1,/^$proved\$/d" | wc -l) left"
+            began=$now told=$proved
             ;;
         esac
     done
     return "$ended"
 }
 
-# prove NAME COMMAND..: the kit's command on a crate; its account goes to target/NAME.log, and the end of that is told where it fails.
+# prove NAME COMMAND..: a command that proves a crate; its account goes to target/NAME.log, and the end of that is told where it fails.
 prove() {
     crate=$1
     shift
-    { "$@" </dev/null 2>&1; echo "status $?"; } | tee "target/$crate.log" | tell "$(crates_of "$crate" | wc -l)" && return 0
+    { "$@" </dev/null 2>&1; echo "status $?"; } | tee "target/$crate.log" | tell "$crate" && return 0
     tail -n 20 "target/$crate.log" >&2
     say "$crate is not proved: target/$crate.log has the whole account"
     return 1
+}
+
+# make_program NAME: the kit proves and builds a program for every x86-64, and runs it, on nothing here. How that run ends says nothing
+# of the proof: the program is there then, or it is not.
+make_program() {
+    rm -f "crates/$1/out/$1"
+    (cd "crates/$1" && rt run --cpu x86-64 >/dev/null)
+    [ -x "crates/$1/out/$1" ] && mkdir -p target/bin && cp "crates/$1/out/$1" "target/bin/$1.new" && mv "target/bin/$1.new" "target/bin/$1"
 }
 
 # build NAME: a proved program, where it is not fresh; in a shell of its own, which holds the lock.
@@ -192,10 +193,9 @@ build() (
     need_room
     lock
     is_fresh "$1" && exit 0
-    forget "$1"
     sources=$(sources_of "$1")
     say "proving and building $1, of $(crates_of "$1" | wc -l) crates: five to ten minutes in a new checkout; later only what has changed"
-    prove "$1" rt check "$1" || exit 1
+    prove "$1" make_program "$1" || exit 1
     [ "$sources" = "$(sources_of "$1")" ] || { say "the sources of $1 changed while they were proved: run this again"; exit 1; }
     record "$1" "$sources"
 )

@@ -39,16 +39,12 @@ is_native() {
     esac
 }
 
-# run_on PROCESSOR PROGRAM: it takes the shell's place, in an emulator where the machine does not run it itself: for x86-64 the kit's or
-# Debian's, for another with Linux Debian's, for a Cortex-M an emulated board with a Cortex-M4.
+# run_on PROCESSOR PROGRAM: it takes the shell's place, in an emulator where the machine does not run it itself; a Cortex-M's on an
+# emulated board with a Cortex-M4.
 run_on() {
     is_native "$1" && exec "$2"
     case $1 in
-    x86-64)
-        emulator=$(dirname "$(dirname "$(rt doc)")")/on/$(uname -m)/toolchain/bin/qemu-x86_64
-        [ -x "$emulator" ] || emulator=qemu-x86_64
-        exec "$emulator" "$2"
-        ;;
+    x86-64) exec qemu-x86_64 "$2" ;;
     aarch64) exec qemu-aarch64 "$2" ;;
     armv7) exec qemu-arm "$2" ;;
     *)

@@ -17,15 +17,18 @@ def environment(**words):
 def copy_sources(room, name):
     """A copy of the checkout as it is fetched: nothing that git or a test makes."""
     copy = os.path.join(room, name)
-    shutil.copytree(TOP, copy, symlinks=True, ignore=shutil.ignore_patterns(".git", "target", "__pycache__"))
+    shutil.copytree(TOP, copy, symlinks=True, ignore=shutil.ignore_patterns(".git", "target", "out", "__pycache__"))
     return copy
 
 
 def copy_built(room, name):
-    """A copy in which list is proved and built: the crates that it is made of, their stamps, and its record."""
+    """A copy in which list is proved and built: the libraries that it is made of, and its record."""
     copy = copy_sources(room, name)
-    shutil.copytree(os.path.join(TOP, "target", "rlib"), os.path.join(copy, "target", "rlib"))
-    for part in ("stamp", "bin", "built"):
+    for crate in os.listdir(os.path.join(TOP, "crates")):
+        library = os.path.join("crates", crate, "out", "rlib")
+        if os.path.isdir(os.path.join(TOP, library)):
+            shutil.copytree(os.path.join(TOP, library), os.path.join(copy, library))
+    for part in ("bin", "built"):
         shutil.copytree(os.path.join(TOP, "target", part), os.path.join(copy, "target", part))
     return copy
 

@@ -131,8 +131,7 @@ fn is_inside(size: usize, end: u32) -> bool
 }
 
 // The words of a list, each a place and a table's number, by a scan: the sum of their entries and of the places after them.
-#[unsafe(no_mangle)]
-pub extern "C" fn oarcradler_bench_scan(bytes: &[u8], end: u32, words: &[u32]) -> u32
+pub fn oarcradler_bench_scan(bytes: &[u8], end: u32, words: &[u32]) -> u32
     ensures { result ≡ words_sum bytes.now end words.now }
 {
     if !is_inside(bytes.len(), end) {
@@ -155,8 +154,7 @@ pub extern "C" fn oarcradler_bench_scan(bytes: &[u8], end: u32, words: &[u32]) -
 }
 
 // The words of a list, each a place and a table's number, by lookup: the sum of their entries and of the places after them.
-#[unsafe(no_mangle)]
-pub extern "C" fn oarcradler_bench_lookup(bytes: &[u8], end: u32, words: &[u32]) -> u32
+pub fn oarcradler_bench_lookup(bytes: &[u8], end: u32, words: &[u32]) -> u32
     ensures { result ≡ words_sum bytes.now end words.now }
 {
     if !is_inside(bytes.len(), end) {

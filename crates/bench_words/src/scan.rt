@@ -9,7 +9,7 @@ ghost use Rattle.bench_words.specs.InnerTable.{Usable};
 use bits::Field;
 
 // What a word is to the first bits at a place: it is their prefix, they are its proper prefix, or neither.
-#[derive(Drop)]
+#[derive(Clone, Copy)]
 enum Comparison {
     Fits,
     Cut,
@@ -17,7 +17,7 @@ enum Comparison {
 }
 
 // The first bits at a place: how many, at most 20, and their number.
-#[derive(Drop)]
+#[derive(Clone, Copy)]
 struct Window {
     count: usize,
     value: u32,

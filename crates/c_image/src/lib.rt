@@ -34,8 +34,7 @@ fn put_parts(answer: &mut [u8], image: &[u8], count: usize)
 }
 
 // The header of an image: a lent answer gets the payload count and the sampling index.
-#[unsafe(no_mangle)]
-pub extern "C" fn oarcradler_read_header(image: &[u8], answer: &mut [u8]) -> u32
+pub fn oarcradler_read_header(image: &[u8], answer: &mut [u8]) -> u32
     ensures { ReadHeaderPromise image.now answer.old result answer.new }
 {
     if answer.len() < 8 {
@@ -50,8 +49,7 @@ pub extern "C" fn oarcradler_read_header(image: &[u8], answer: &mut [u8]) -> u32
 }
 
 // The part of an image that its k-th payload is: a lent answer gets where it starts and where it ends.
-#[unsafe(no_mangle)]
-pub extern "C" fn oarcradler_find_part(image: &[u8], k: u32, answer: &mut [u8]) -> u32
+pub fn oarcradler_find_part(image: &[u8], k: u32, answer: &mut [u8]) -> u32
     ensures { FindPartPromise image.now k answer.old result answer.new }
 {
     if answer.len() < 8 {
@@ -66,8 +64,7 @@ pub extern "C" fn oarcradler_find_part(image: &[u8], k: u32, answer: &mut [u8]) 
 }
 
 // The parts of all payloads of an image: a lent answer gets of each where it starts and where it ends. The header is judged once.
-#[unsafe(no_mangle)]
-pub extern "C" fn oarcradler_find_parts(image: &[u8], answer: &mut [u8]) -> u32
+pub fn oarcradler_find_parts(image: &[u8], answer: &mut [u8]) -> u32
     ensures { FindPartsPromise image.now answer.old result answer.new }
 {
     let header = image::header_for(image, 8, answer.len());

@@ -4,10 +4,8 @@ use mathlib.Core.Path.{◌≡◌, ap, ◌∙◌}
 use native.Mathlib.Omega.{arith}
 use native.Mathlib.Decide.{dec_le}
 use lib.Dec.{leb}
-use borrow.Author.Rules.{rules}
 use borrow.Author.Tests.{le-leb, lt-leb}
-use Rattle.bench_words.proofs.is_inside.Statement.{statement}
-use Rattle.bench_words.proofs.is_inside.Tie as tie
+use Rattle.bench_words.proofs.is_inside.Goals as goal
 
 near : (end size : ℕ) → end < 4294967296 → leb end (8 * min size 536870912) ≡ leb end (8 * size)
 near end size h =
@@ -16,10 +14,7 @@ near end size h =
       | no d ↦ rw (lt-leb end (8 * size) (omega (arith, d))) (lt-leb end (8 * min size 536870912) (omega (arith, d)))
     ]
 
-returns : tie.Need-returns
+pub returns : goal.returns
 returns c =
-    let x = c.before.args in
-    ap (λ (n : ℕ). leb x.end (8 * n)) c.looked-at.ensures ∙ near x.end x.size (omega arith)
-
-pub is-inside-spec : {M : Type 1} → statement M
-is-inside-spec = tie.close (tie.spec (λ c κs. search rules) (λ c. search rules) returns)
+    let x = c.args in
+    ap (λ (n : ℕ). leb x.end (8 * n)) c.looked_at.ensures ∙ near x.end x.size (omega arith)
