@@ -6,7 +6,7 @@ ghost use Rattle.adts_files.specs.InnerWindow.{Kept, Enough};
 use std::io::Read;
 
 // The bytes of a lent buffer that were read and are not listed yet; whether the input has ended, and whether every read succeeded.
-#[derive(Drop)]
+#[derive(Clone, Copy)]
 pub struct Window {
     pub start: usize,
     pub end: usize,
@@ -15,7 +15,7 @@ pub struct Window {
 }
 
 // How far a lent buffer is filled; whether the input has ended, and whether every read succeeded.
-#[derive(Drop)]
+#[derive(Clone, Copy)]
 struct Input {
     end: usize,
     ended: bool,

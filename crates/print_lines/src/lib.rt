@@ -12,7 +12,7 @@ mod places;
 pub mod text;
 
 // The five numbers of a payload: its refusal and the bit at which it was refused, or 0, and what it holds.
-#[derive(Drop)]
+#[derive(Clone, Copy)]
 pub struct Payload {
     pub number: usize,
     pub place: usize,
