@@ -4,13 +4,13 @@ use Rattle.print_lines.specs.InnerText.{with_text}
 use Rattle.print_rows.proofs.Signs.{minus, no_minus}
 use Rattle.print_rows.proofs.signed.put_sign.Goals as goal
 
-pub returns-then-n-lt0 : goal.returns-then-n-lt0
+pub returns-then-below : goal.returns-then-below
 unfolding with_text
-returns-then-n-lt0 c =
+returns-then-below c =
     let put = c in
     let entry = put in
-    rw (minus entry.args.n entry.ranges.n put.if-n-lt0.true) put.put_byte.ensures
+    rw (minus entry.args.n entry.ranges.n put.if-below.true) put.put_byte.ensures
 
 pub returns : goal.returns
 unfolding with_text
-returns c = let entry = c in rw (no_minus entry.args.n entry.ranges.n c.if-n-lt0.false)
+returns c = let entry = c in rw (no_minus entry.args.n entry.ranges.n c.if-below.false)
