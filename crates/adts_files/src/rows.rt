@@ -7,7 +7,7 @@ use sounding::{count_sounding, no_lines};
 
 // The numbers of a frame: its refusal and the bit at which it was refused, or 0, its length and sampling index where its header is
 // accepted, its gain, sounding lines and bits where its stream is, and how far it is to the next frame, or 0 where none is known.
-#[derive(Drop)]
+#[derive(Clone, Copy)]
 pub struct Row {
     pub number: usize,
     pub place: usize,

@@ -3,8 +3,10 @@
 ghost use Rattle.std.specs.Prelude.{◌≡◌, true, false, ◌+◌, ◌-◌, ◌≤◌, length, take, drop};
 ghost use Rattle.adts_files.specs.InnerWindow.{Kept, Enough};
 
+use std::io::Read;
+
 // The bytes of a lent buffer that were read and are not listed yet; whether the input has ended, and whether every read succeeded.
-#[derive(Drop)]
+#[derive(Clone, Copy)]
 pub struct Window {
     pub start: usize,
     pub end: usize,
@@ -13,7 +15,7 @@ pub struct Window {
 }
 
 // How far a lent buffer is filled; whether the input has ended, and whether every read succeeded.
-#[derive(Drop)]
+#[derive(Clone, Copy)]
 struct Input {
     end: usize,
     ended: bool,
@@ -46,22 +48,21 @@ fn move_front(buffer: &mut [u8], start: usize, end: usize)
 }
 
 // Standard input is read after the first bytes, until a frame's most are there, the input ends or a read fails.
-fn read_on(buffer: &mut [u8], first: usize) -> Input
+fn read_on(input: &mut impl Read, buffer: &mut [u8], first: usize) -> Input
     requires { (first ≤ 8191) × (8191 ≤ length buffer.old) }
     ensures { (first ≤ result.end) × (result.end ≤ length buffer.new)
         × (take first buffer.new ≡ take first buffer.old) × Enough result.ended result.readable result.end }
 {
     let mut end = first;
     while end < 8191 {
-        let got = libc::read(0, &mut buffer[end..]);
-        if got < 0 {
+        let got = input.read(&mut buffer[end..]);
+        let Ok(more) = got else {
             return Input {
                 end,
                 ended: false,
                 readable: false,
             };
-        }
-        let more = io::count(got, &buffer[end..]);
+        };
         if more == 0 {
             return Input {
                 end,
@@ -79,7 +80,7 @@ fn read_on(buffer: &mut [u8], first: usize) -> Input
 }
 
 // The window with a frame's most in it, or all that is left: what is in it stays, and what comes next is read behind it.
-pub fn refill(buffer: &mut [u8], w: Window) -> Window
+pub fn refill(input: &mut impl Read, buffer: &mut [u8], w: Window) -> Window
     requires { (w.start ≤ w.end) × (w.end ≤ length buffer.old) × (8191 ≤ length buffer.old) }
     ensures { (result.start ≤ result.end) × (result.end ≤ length buffer.new)
         × Kept w.start w.end buffer.old result.start result.end buffer.new
@@ -95,12 +96,12 @@ pub fn refill(buffer: &mut [u8], w: Window) -> Window
         return w;
     }
     move_front(buffer, w.start, w.end);
-    let input = read_on(buffer, w.end - w.start);
+    let read = read_on(input, buffer, w.end - w.start);
     Window {
         start: 0,
-        end: input.end,
-        ended: input.ended,
-        readable: input.readable,
+        end: read.end,
+        ended: read.ended,
+        readable: read.readable,
     }
 }
 

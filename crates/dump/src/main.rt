@@ -1,6 +1,6 @@
 // All numbers of a tag image on standard input.
 #![tactic(auto)]
 
-fn main() {
-    print::print_input(true);
+fn main(rt: HostRuntime) {
+    print::print_input(&rt, true);
 }

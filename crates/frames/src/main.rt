@@ -6,9 +6,10 @@ ghost use Rattle.std.specs.Prelude.{◌≤◌, length};
 use adts_files::rows::Row;
 use adts_files::{rows, window};
 use print_lines::frames;
+use std::io::Read;
 
 // How a listing ended.
-#[derive(Drop)]
+#[derive(Clone, Copy)]
 enum Outcome {
     Listed,
     Unreadable,
@@ -17,23 +18,23 @@ enum Outcome {
 }
 
 // The line of the k-th frame, which starts at a byte of the file.
-fn say_row(k: usize, byte: usize, r: Row) -> bool {
+fn say_row(out: &impl Print, k: usize, byte: usize, r: Row) -> bool {
     if r.number != 0 {
-        return frames::say_refused_frame(k, byte, r.number, r.place);
+        return frames::say_refused_frame(out, k, byte, r.number, r.place);
     }
-    frames::say_frame(k, byte, r.length, r.index, r.gain, r.lines, r.bits)
+    frames::say_frame(out, k, byte, r.length, r.index, r.gain, r.lines, r.bits)
 }
 
 // The frames of the file, as far as a next one is known. Bytes and frames are counted up to 2^64 - 257, the largest number that a line can
 // have; each frame has a byte, so the frames are not more.
-fn list_frames(buffer: &mut [u8]) -> Outcome
+fn list_frames(input: &mut impl Read, out: &impl Print, buffer: &mut [u8]) -> Outcome
     requires { 8191 ≤ length buffer.old }
 {
     let mut k = 0;
     let mut byte = 0usize;
     let mut w = window::empty();
     loop {
-        w = window::refill(buffer, w);
+        w = window::refill(input, buffer, w);
         if !w.readable {
             return Outcome::Unreadable;
         }
@@ -43,7 +44,7 @@ fn list_frames(buffer: &mut [u8]) -> Outcome
             return Outcome::Listed;
         }
         let row = rows::read_row(&buffer[start..end]);
-        if !say_row(k, byte, row) {
+        if !say_row(out, k, byte, row) {
             return Outcome::Unwritten;
         }
         let step = row.step;
@@ -60,24 +61,20 @@ fn list_frames(buffer: &mut [u8]) -> Outcome
 }
 
 // The file on standard input. A fault of the input or the output is told on standard error, of which tools/run makes an exit status.
-fn main() {
+fn main(rt: HostRuntime) {
     let mut buffer = io::large_buffer();
-    let outcome = list_frames(&mut buffer);
+    let outcome = list_frames(&mut rt.stdin(), &rt, &mut buffer);
     match outcome {
         Outcome::Listed => {}
         Outcome::Unreadable => {
-            io::write_all(2, b"oarcradler: standard input cannot be read\n");
+            let _ = rt.eprintln("oarcradler: standard input cannot be read");
         }
         Outcome::Unwritten => {
-            io::write_all(
-                2,
-                b"oarcradler: standard output cannot be written: lines are missing\n",
-            );
+            let _ = rt.eprintln("oarcradler: standard output cannot be written: lines are missing");
         }
         Outcome::Uncounted => {
-            io::write_all(
-                2,
-                b"oarcradler: standard input is too long: its bytes cannot be counted\n",
+            let _ = rt.eprintln(
+                "oarcradler: standard input is too long: its bytes cannot be counted",
             );
         }
     }

@@ -6,10 +6,11 @@ ghost use Rattle.import.specs.InnerGathering.{FitsImage};
 use adts::Framed;
 use adts_files::window;
 use print_lines::faults;
+use std::io::Read;
 
 // How many streams were gathered, up to which byte of the file, how many bytes they take with the stereo payloads after them, and their
 // sampling index; the length of the last one's frame; or that a fault was told.
-#[derive(Drop)]
+#[derive(Clone, Copy)]
 pub struct Gathered {
     pub told: bool,
     pub count: usize,
@@ -59,25 +60,25 @@ fn bytes_for(bits: usize) -> usize
 }
 
 // Whether an image takes a frame after what was gathered, for a sampling index; if not, it is told why.
-fn is_taken(g: Gathered, index: u8, f: Framed) -> bool
+fn is_taken(err: &impl Print, g: Gathered, index: u8, f: Framed) -> bool
     requires { FitsImage g × (bytes_for f.reading.bits ≤ 76000) }
     ensures { result ≡ true → (g.count < 512)
         × (g.size + bytes_for f.reading.bits + 4 * g.count + 11 ≤ 65535) }
 {
     if f.reading.number != 0 {
-        faults::tell_refused(g.count, g.byte, f.reading.number as usize);
+        faults::tell_refused(err, g.count, g.byte, f.reading.number as usize);
         return false;
     }
     if f.index != index {
-        faults::tell_index(g.count, g.byte, f.index as usize, index as usize);
+        faults::tell_index(err, g.count, g.byte, f.index as usize, index as usize);
         return false;
     }
     if 512 <= g.count {
-        faults::tell_count(g.count, g.byte);
+        faults::tell_count(err, g.count, g.byte);
         return false;
     }
     if 65535 < g.size + bytes_for(f.reading.bits) + 4 * g.count + 11 {
-        faults::tell_size(g.count, g.byte);
+        faults::tell_size(err, g.count, g.byte);
         return false;
     }
     true
@@ -85,13 +86,19 @@ fn is_taken(g: Gathered, index: u8, f: Framed) -> bool
 
 // What is gathered with the frame at the front of a slice: its stream and the stereo payload 0 are put into the image, and where the stream
 // ends after its header; or a fault is told.
-fn take_frame(bytes: &[u8], image: &mut [u8], ends: &mut [u16], g: Gathered) -> Gathered
+fn take_frame(
+    err: &impl Print,
+    bytes: &[u8],
+    image: &mut [u8],
+    ends: &mut [u16],
+    g: Gathered,
+) -> Gathered
     requires { (length bytes.now ≤ 65536) × (length image.old ≡ 76000) × (512 ≤ length ends.old) × FitsImage g }
     ensures { FitsImage result × (result.length ≤ length bytes.now) × (result.told ≡ false → result.count ≡ g.count + 1) }
 {
     let f = unwrap_at(bytes, image, 2054 + g.size);
     let index = first_index(g.count, g.index, f.index);
-    if !is_taken(g, index, f) {
+    if !is_taken(err, g, index, f) {
         return nothing(true);
     }
     let last = g.size + bytes_for(f.reading.bits);
@@ -109,16 +116,22 @@ fn take_frame(bytes: &[u8], image: &mut [u8], ends: &mut [u16], g: Gathered) -> 
 }
 
 // The streams of the file, each followed by the stereo payload 0, and where each ends; up to the first fault, which is told.
-pub fn gather(buffer: &mut [u8], image: &mut [u8], ends: &mut [u16]) -> Gathered
+pub fn gather(
+    input: &mut impl Read,
+    err: &impl Print,
+    buffer: &mut [u8],
+    image: &mut [u8],
+    ends: &mut [u16],
+) -> Gathered
     requires { (8191 ≤ length buffer.old) × (length buffer.old ≤ 65536) × (length image.old ≡ 76000) × (512 ≤ length ends.old) }
     ensures { FitsImage result }
 {
     let mut g = nothing(false);
     let mut w = window::empty();
     loop {
-        w = window::refill(buffer, w);
+        w = window::refill(input, buffer, w);
         if !w.readable {
-            io::write_all(2, b"oarcradler: standard input cannot be read\n");
+            let _ = err.println("oarcradler: standard input cannot be read");
             return nothing(true);
         }
         let start = w.start;
@@ -126,7 +139,7 @@ pub fn gather(buffer: &mut [u8], image: &mut [u8], ends: &mut [u16]) -> Gathered
         if start == end {
             return g;
         }
-        g = take_frame(&buffer[start..end], image, ends, g);
+        g = take_frame(err, &buffer[start..end], image, ends, g);
         if g.told {
             return g;
         }

@@ -9,29 +9,42 @@ mod gathering;
 mod heading;
 
 // The image of what was gathered is written, its header right before the streams.
-fn write_image(image: &mut [u8], ends: &[u16], index: u8, count: usize, size: usize) -> bool
+fn write_image(
+    out: &impl Print,
+    image: &mut [u8],
+    ends: &[u16],
+    index: u8,
+    count: usize,
+    size: usize,
+) -> bool
     requires { (count ≤ 512) × (size + 4 * count ≤ 65529) × (length image.old ≡ 76000) × (512 ≤ length ends.now) }
 {
     let start = 2048 - 4 * count;
     let end = 2054 + size;
     put_heading(image, start, index, ends, count);
-    io::write_all(1, &image[start..end])
+    out.write_all(&image[start..end]).is_ok()
 }
 
 // The file on standard input. Why no image is made or written is told on standard error, of which tools/run makes an exit status.
-fn main() {
+fn main(rt: HostRuntime) {
     let mut buffer = io::large_buffer();
     let mut image = [0u8; 76000];
     let mut ends = [0u16; 512];
-    let g = gathering::gather(&mut buffer, &mut image, &mut ends);
+    let g = gathering::gather(
+        &mut rt.stdin(),
+        &rt.stderr(),
+        &mut buffer,
+        &mut image,
+        &mut ends,
+    );
     if g.told {
         return;
     }
     if g.count == 0 {
-        io::write_all(2, b"oarcradler: standard input has no frame\n");
+        let _ = rt.eprintln("oarcradler: standard input has no frame");
         return;
     }
-    if !write_image(&mut image, &ends, g.index, g.count, g.size) {
-        io::write_all(2, b"oarcradler: standard output cannot be written\n");
+    if !write_image(&rt, &mut image, &ends, g.index, g.count, g.size) {
+        let _ = rt.eprintln("oarcradler: standard output cannot be written");
     }
 }

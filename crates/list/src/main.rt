@@ -1,6 +1,6 @@
 // The listing of a tag image on standard input.
 #![tactic(auto)]
 
-fn main() {
-    print::print_input(false);
+fn main(rt: HostRuntime) {
+    print::print_input(&rt, false);
 }

@@ -2,7 +2,7 @@
 use print_rows::channels;
 
 // What a channel payload holds, where it is accepted.
-pub fn print_channel(ok: bool, bytes: &[u8], index: u8) -> bool {
+pub fn print_channel(out: &impl Print, ok: bool, bytes: &[u8], index: u8) -> bool {
     let mut lines = [0i16; 1024];
     let mut factors = [0u8; 120];
     let mut books = [0u8; 120];
@@ -11,5 +11,5 @@ pub fn print_channel(ok: bool, bytes: &[u8], index: u8) -> bool {
     if r.number != 0 {
         return ok;
     }
-    channels::print_reading(ok, r, &lines, &factors, &books)
+    channels::print_reading(out, ok, r, &lines, &factors, &books)
 }

@@ -15,14 +15,21 @@ mod input;
 mod stereos;
 
 // Whether a payload's rows were all written, and the stereo state after it.
-#[derive(Drop)]
+#[derive(Clone, Copy)]
 struct Printed {
     written: bool,
     state: State,
 }
 
 // What the k-th payload holds, from the state before it; the state after it comes back.
-fn print_details(ok: bool, image: &[u8], k: usize, index: u8, state: State) -> Printed
+fn print_details(
+    out: &impl Print,
+    ok: bool,
+    image: &[u8],
+    k: usize,
+    index: u8,
+    state: State,
+) -> Printed
     requires { (part_of image.now k).number ≡ 0 }
     ensures { result.state ≡ state_from state k (bytes_of image.now k) }
 {
@@ -31,14 +38,14 @@ fn print_details(ok: bool, image: &[u8], k: usize, index: u8, state: State) -> P
     let end = part.end;
     let bytes = &image[start..end];
     if k % 2 == 0 {
-        let written = channels::print_channel(ok, bytes, index);
+        let written = channels::print_channel(out, ok, bytes, index);
         return Printed { written, state };
     }
-    stereos::print_stereo(ok, state, bytes)
+    stereos::print_stereo(out, ok, state, bytes)
 }
 
 // The k-th payload's line, from its five numbers in the outline; in full with the place of a refusal.
-fn print_line(k: usize, rows: &[usize], full: bool) -> bool
+fn print_line(out: &impl Print, k: usize, rows: &[usize], full: bool) -> bool
     requires { (k < 1024) × (5120 ≤ length rows.now) }
 {
     let at = 5 * k;
@@ -49,11 +56,12 @@ fn print_line(k: usize, rows: &[usize], full: bool) -> bool
         second: rows[at + 3],
         bits: rows[at + 4],
     };
-    print_lines::say_payload(full, k, payload)
+    print_lines::say_payload(out, full, k, payload)
 }
 
 // The k-th payload: its line, and in full what it holds, from the state before it.
 fn print_payload(
+    out: &impl Print,
     image: &[u8],
     k: usize,
     index: u8,
@@ -65,22 +73,29 @@ fn print_payload(
         × ((part_of image.now k).number ≡ 0) × (state ≡ printed_from full image.now k) }
     ensures { result.state ≡ printed_after full state k (bytes_of image.now k) }
 {
-    let written = print_line(k, rows, full);
+    let written = print_line(out, k, rows, full);
     if full {
-        return print_details(written, image, k, index, state);
+        return print_details(out, written, image, k, index, state);
     }
     Printed { written, state }
 }
 
 // The payloads of an image that has this outline, in their order, up to the first line that is not written; whether all were.
-fn print_payloads(image: &[u8], count: usize, index: u8, rows: &[usize], full: bool) -> bool
+fn print_payloads(
+    out: &impl Print,
+    image: &[u8],
+    count: usize,
+    index: u8,
+    rows: &[usize],
+    full: bool,
+) -> bool
     requires { (count ≤ 1024) × (5120 ≤ length rows.now)
         × (header_of image.now ≡ record { number = 0; count = count; index = index }) }
 {
     let mut state = states::fresh();
     let mut k = 0;
     while k < count {
-        let printed = print_payload(image, k, index, rows, full, state);
+        let printed = print_payload(out, image, k, index, rows, full, state);
         if !printed.written {
             return false;
         }
@@ -92,40 +107,37 @@ fn print_payloads(image: &[u8], count: usize, index: u8, rows: &[usize], full: b
 }
 
 // An image; the answer is whether every line was written.
-fn print_image(image: &[u8], full: bool) -> bool {
+fn print_image(out: &impl Print, image: &[u8], full: bool) -> bool {
     let mut rows = [0usize; 5120];
     let header = image_outline::read_image(image, &mut rows);
     if header.number != 0 {
-        return print_lines::say_refused_image(header.number);
+        return print_lines::say_refused_image(out, header.number);
     }
-    if !print_lines::say_count(header.count) {
+    if !print_lines::say_count(out, header.count) {
         return false;
     }
-    print_payloads(image, header.count, header.index, &rows, full)
+    print_payloads(out, image, header.count, header.index, &rows, full)
 }
 
 // The first n bytes of the input; where they fill the buffer, the image is too long.
-fn print_read(buffer: &[u8], n: usize, full: bool) -> bool
+fn print_read(out: &impl Print, buffer: &[u8], n: usize, full: bool) -> bool
     requires { IsPrefixLen n buffer.now }
 {
     if 65535 < n {
-        return print_lines::say_refused_image(5);
+        return print_lines::say_refused_image(out, 5);
     }
-    print_image(&buffer[..n], full)
+    print_image(out, &buffer[..n], full)
 }
 
 // The image on standard input. A fault of the input or the output is told on standard error, of which tools/run makes an exit status.
-pub fn print_input(full: bool) {
+pub fn print_input(rt: &(impl Input + Print + Eprint), full: bool) {
     let mut image = io::large_buffer();
-    let input = input::read_input(&mut image);
+    let input = input::read_input(&mut rt.reader(), &mut image);
     if !input.readable {
-        io::write_all(2, b"oarcradler: standard input cannot be read\n");
+        let _ = rt.eprintln("oarcradler: standard input cannot be read");
         return;
     }
-    if !print_read(&image, input.size, full) {
-        io::write_all(
-            2,
-            b"oarcradler: standard output cannot be written: lines are missing\n",
-        );
+    if !print_read(rt, &image, input.size, full) {
+        let _ = rt.eprintln("oarcradler: standard output cannot be written: lines are missing");
     }
 }

@@ -54,29 +54,29 @@ fn put_size_fault(line: &mut [u8], k: usize, byte: usize) -> usize
 }
 
 // That a frame is refused is told.
-pub fn tell_refused(k: usize, byte: usize, number: usize) {
+pub fn tell_refused(err: &impl Print, k: usize, byte: usize, number: usize) {
     let mut line = [0u8; 2048];
     let at = put_refused_fault(&mut line, k, byte, number);
-    text::write_line(2, &mut line, at);
+    text::write_line(err, &mut line, at);
 }
 
 // That a frame's sampling index is not the first frame's is told.
-pub fn tell_index(k: usize, byte: usize, index: usize, first: usize) {
+pub fn tell_index(err: &impl Print, k: usize, byte: usize, index: usize, first: usize) {
     let mut line = [0u8; 2048];
     let at = put_index_fault(&mut line, k, byte, index, first);
-    text::write_line(2, &mut line, at);
+    text::write_line(err, &mut line, at);
 }
 
 // That a frame's payloads are too many is told.
-pub fn tell_count(k: usize, byte: usize) {
+pub fn tell_count(err: &impl Print, k: usize, byte: usize) {
     let mut line = [0u8; 2048];
     let at = put_count_fault(&mut line, k, byte);
-    text::write_line(2, &mut line, at);
+    text::write_line(err, &mut line, at);
 }
 
 // That a frame's stream is too long is told.
-pub fn tell_size(k: usize, byte: usize) {
+pub fn tell_size(err: &impl Print, k: usize, byte: usize) {
     let mut line = [0u8; 2048];
     let at = put_size_fault(&mut line, k, byte);
-    text::write_line(2, &mut line, at);
+    text::write_line(err, &mut line, at);
 }

@@ -37,6 +37,7 @@ fn put_refused_frame(line: &mut [u8], k: usize, byte: usize, number: usize, plac
 
 // The line of a frame that was accepted is written.
 pub fn say_frame(
+    out: &impl Print,
     k: usize,
     byte: usize,
     size: usize,
@@ -47,12 +48,18 @@ pub fn say_frame(
 ) -> bool {
     let mut line = [0u8; 2048];
     let at = put_frame(&mut line, k, byte, size, index, gain, lines, bits);
-    text::say(true, &mut line, at)
+    text::say(out, true, &mut line, at)
 }
 
 // The line of a frame that was refused is written.
-pub fn say_refused_frame(k: usize, byte: usize, number: usize, place: usize) -> bool {
+pub fn say_refused_frame(
+    out: &impl Print,
+    k: usize,
+    byte: usize,
+    number: usize,
+    place: usize,
+) -> bool {
     let mut line = [0u8; 2048];
     let at = put_refused_frame(&mut line, k, byte, number, place);
-    text::say(true, &mut line, at)
+    text::say(out, true, &mut line, at)
 }

@@ -12,7 +12,7 @@ mod places;
 pub mod text;
 
 // The five numbers of a payload: its refusal and the bit at which it was refused, or 0, and what it holds.
-#[derive(Drop)]
+#[derive(Clone, Copy)]
 pub struct Payload {
     pub number: usize,
     pub place: usize,
@@ -93,22 +93,22 @@ fn put_payload(line: &mut [u8], told: bool, k: usize, p: Payload) -> usize
 }
 
 // The line of a bad image is written.
-pub fn say_refused_image(number: u8) -> bool {
+pub fn say_refused_image(out: &impl Print, number: u8) -> bool {
     let mut line = [0u8; 1024];
     let at = put_refused_image(&mut line, number);
-    text::say(true, &mut line, at)
+    text::say(out, true, &mut line, at)
 }
 
 // The first line of a good one is written.
-pub fn say_count(count: usize) -> bool {
+pub fn say_count(out: &impl Print, count: usize) -> bool {
     let mut line = [0u8; 1024];
     let at = put_count(&mut line, count);
-    text::say(true, &mut line, at)
+    text::say(out, true, &mut line, at)
 }
 
 // The line of a payload, from its five numbers, is written; the place of a refusal is told, or is not.
-pub fn say_payload(told: bool, k: usize, p: Payload) -> bool {
+pub fn say_payload(out: &impl Print, told: bool, k: usize, p: Payload) -> bool {
     let mut line = [0u8; 1024];
     let at = put_payload(&mut line, told, k, p);
-    text::say(true, &mut line, at)
+    text::say(out, true, &mut line, at)
 }

@@ -72,20 +72,20 @@ pub fn put_form(line: &mut [u8], at: usize, form: &[u8], numbers: &[usize]) -> u
     to
 }
 
-// The line is ended and written to standard output (1) or standard error (2); the answer is whether all of it was written.
-pub fn write_line(to: i32, line: &mut [u8], at: usize) -> bool
+// The line is ended and written to standard output or standard error; the answer is whether all of it was written.
+pub fn write_line(to: &impl Print, line: &mut [u8], at: usize) -> bool
     requires { at < length line.old }
 {
     line[at] = b'\n';
-    io::write_all(to, &line[..at + 1])
+    to.write_all(&line[..at + 1]).is_ok()
 }
 
 // The line is ended and written to standard output where all lines before it were; the answer is whether all of it was written.
-pub fn say(ok: bool, line: &mut [u8], at: usize) -> bool
+pub fn say(out: &impl Print, ok: bool, line: &mut [u8], at: usize) -> bool
     requires { at < length line.old }
 {
     if !ok {
         return false;
     }
-    write_line(1, line, at)
+    write_line(out, line, at)
 }

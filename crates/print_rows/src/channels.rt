@@ -64,16 +64,23 @@ fn put_values(line: &mut [u8], lines: &[i16]) -> usize
 }
 
 // The window information, the books and scale factors, and the lines.
-pub fn print_reading(ok: bool, r: Reading, lines: &[i16], factors: &[u8], books: &[u8]) -> bool
+pub fn print_reading(
+    out: &impl Print,
+    ok: bool,
+    r: Reading,
+    lines: &[i16],
+    factors: &[u8],
+    books: &[u8],
+) -> bool
     requires { (length lines.now ≤ 1024) × (length factors.now ≤ 120) × (length books.now ≤ 120) }
 {
     let mut line = [0u8; 16384];
     let at = put_window(&mut line, r);
-    let ok = text::say(ok, &mut line, at);
+    let ok = text::say(out, ok, &mut line, at);
     let at = put_books(&mut line, r, books);
-    let ok = text::say(ok, &mut line, at);
+    let ok = text::say(out, ok, &mut line, at);
     let at = put_factors(&mut line, r, factors);
-    let ok = text::say(ok, &mut line, at);
+    let ok = text::say(out, ok, &mut line, at);
     let at = put_values(&mut line, lines);
-    text::say(ok, &mut line, at)
+    text::say(out, ok, &mut line, at)
 }

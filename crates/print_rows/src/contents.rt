@@ -74,13 +74,13 @@ fn put_extension(line: &mut [u8], x: Extension) -> usize
 }
 
 // The contents, from the set-up after them.
-pub fn print_contents(ok: bool, contents: Contents, setup: Setup) -> bool {
+pub fn print_contents(out: &impl Print, ok: bool, contents: Contents, setup: Setup) -> bool {
     let mut line = [0u8; 2048];
     let at = put_header(&mut line, contents.header);
-    let ok = text::say(ok, &mut line, at);
+    let ok = text::say(out, ok, &mut line, at);
     let at = put_frame(&mut line, contents.frame);
-    let ok = text::say(ok, &mut line, at);
-    let ok = envelopes::print_envelopes(ok, &mut line, contents, setup);
+    let ok = text::say(out, ok, &mut line, at);
+    let ok = envelopes::print_envelopes(out, ok, &mut line, contents, setup);
     let at = put_extension(&mut line, contents.extension);
-    text::say(ok, &mut line, at)
+    text::say(out, ok, &mut line, at)
 }

@@ -99,44 +99,57 @@ fn put_opd(line: &mut [u8], contents: Contents, e: usize) -> usize
 }
 
 // The level and coherence indices of the e-th envelope.
-fn print_levels(ok: bool, line: &mut [u8], contents: Contents, e: usize) -> bool
+fn print_levels(out: &impl Print, ok: bool, line: &mut [u8], contents: Contents, e: usize) -> bool
     requires { (2048 ≤ length line.old) × (e < 4) }
 {
     let at = put_iid(line, contents, e);
-    let ok = text::say(ok, line, at);
+    let ok = text::say(out, ok, line, at);
     let at = put_icc(line, contents, e);
-    text::say(ok, line, at)
+    text::say(out, ok, line, at)
 }
 
 // The phase indices of the e-th envelope.
-fn print_phases(ok: bool, line: &mut [u8], contents: Contents, e: usize) -> bool
+fn print_phases(out: &impl Print, ok: bool, line: &mut [u8], contents: Contents, e: usize) -> bool
     requires { (2048 ≤ length line.old) × (e < 4) }
 {
     let at = put_ipd(line, contents, e);
-    let ok = text::say(ok, line, at);
+    let ok = text::say(out, ok, line, at);
     let at = put_opd(line, contents, e);
-    text::say(ok, line, at)
+    text::say(out, ok, line, at)
 }
 
 // The e-th envelope: how its kinds were coded, and their indices.
-fn print_envelope(ok: bool, line: &mut [u8], contents: Contents, setup: Setup, e: usize) -> bool
+fn print_envelope(
+    out: &impl Print,
+    ok: bool,
+    line: &mut [u8],
+    contents: Contents,
+    setup: Setup,
+    e: usize,
+) -> bool
     requires { (2048 ≤ length line.old) × (e < 4) }
 {
     let at = put_envelope(line, contents, setup, e);
-    let ok = text::say(ok, line, at);
-    let ok = print_levels(ok, line, contents, e);
-    print_phases(ok, line, contents, e)
+    let ok = text::say(out, ok, line, at);
+    let ok = print_levels(out, ok, line, contents, e);
+    print_phases(out, ok, line, contents, e)
 }
 
 // The envelopes, of which there are at most four.
-pub fn print_envelopes(before: bool, line: &mut [u8], contents: Contents, setup: Setup) -> bool
+pub fn print_envelopes(
+    out: &impl Print,
+    before: bool,
+    line: &mut [u8],
+    contents: Contents,
+    setup: Setup,
+) -> bool
     requires { 2048 ≤ length line.old }
 {
     let count = contents.frame.envelopes;
     let mut ok = before;
     let mut e = 0;
     while e < 4 && e < count {
-        ok = print_envelope(ok, line, contents, setup, e);
+        ok = print_envelope(out, ok, line, contents, setup, e);
         e += 1;
     }
     ok

@@ -73,16 +73,16 @@ fn put_opd_record(line: &mut [u8], state: State) -> usize
 }
 
 // The set-up, the mark, and the four records.
-pub fn print_state(ok: bool, state: State) -> bool {
+pub fn print_state(out: &impl Print, ok: bool, state: State) -> bool {
     let mut line = [0u8; 2048];
     let at = put_state(&mut line, state);
-    let ok = text::say(ok, &mut line, at);
+    let ok = text::say(out, ok, &mut line, at);
     let at = put_iid_record(&mut line, state);
-    let ok = text::say(ok, &mut line, at);
+    let ok = text::say(out, ok, &mut line, at);
     let at = put_icc_record(&mut line, state);
-    let ok = text::say(ok, &mut line, at);
+    let ok = text::say(out, ok, &mut line, at);
     let at = put_ipd_record(&mut line, state);
-    let ok = text::say(ok, &mut line, at);
+    let ok = text::say(out, ok, &mut line, at);
     let at = put_opd_record(&mut line, state);
-    text::say(ok, &mut line, at)
+    text::say(out, ok, &mut line, at)
 }

@@ -20,7 +20,8 @@ pub fn magnitude(n: i16) -> usize
 fn put_sign(line: &mut [u8], at: usize, n: i16) -> usize
     ensures { line_of line.new result ≡ with_text (line_of line.old at) (sign_text n) }
 {
-    if n < 0 {
+    let below = n < 0;
+    if below {
         return text::put_byte(line, at, b'-');
     }
     at

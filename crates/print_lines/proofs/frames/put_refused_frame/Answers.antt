@@ -1,0 +1,23 @@
+-- The form, and the place after it; both fit.
+-- Assumes nothing.
+use mathlib.Core.List.{[], ◌∷◌}
+use mathlib.Core.Bool.{true}
+use native.Mathlib.Omega.{arith}
+use Rattle.print_lines.specs.InnerText.{ascii, line}
+use Rattle.print_lines.specs.InnerPlaces.{place_text}
+use Rattle.print_lines.specs.InnerFrames.{refused_frame}
+use Rattle.print_lines.proofs.TextLaws.{form_short, two-held}
+use Rattle.print_lines.proofs.PlaceLaws.{place_short}
+use Rattle.print_lines.proofs.frames.put_refused_frame.Goals as goal
+
+pub returns : goal.returns
+unfolding refused_frame
+returns c =
+    let put = c in
+    let form = put in
+    let entry = form in
+    let a = entry.args in
+    let numbers = a.k ∷ a.byte ∷ a.number ∷ [] in
+    two-held a.line.now (line "# frame at # refused #" numbers) (place_text true a.number a.place) form.put_form-at.ensures
+    put.put_place.ensures
+    (omega (arith, form_short (ascii "# frame at # refused #") numbers, place_short true a.number a.place, entry.requires))

@@ -1,0 +1,14 @@
+-- By the code's own test; a part is what its size announces.
+-- Assumes nothing.
+use borrow.Author.Tests.{eq-eqb, ne_eqb}
+use Rattle.print_lines.specs.InnerText.{form_text}
+use Rattle.print_rows.specs.InnerStereoRows.{extension_row}
+use Rattle.print_rows.proofs.contents.put_extension.Goals as goal
+
+pub returns-then-x-ne1 : goal.returns-then-x-ne1
+unfolding extension_row form_text
+returns-then-x-ne1 c = let put = c in rw (ne_eqb _ _ put.if-x-ne1.true) put.put_line.ensures
+
+pub returns : goal.returns
+unfolding extension_row
+returns c = let put = c in rw (eq-eqb _ _ put.if-x-ne1.false) put.put_part.ensures

@@ -1,0 +1,36 @@
+-- Each turn puts the next: what is put so far and what is left make all of them.
+-- Assumes nothing.
+use mathlib.Core.Path.{refl, ◌∙◌}
+use native.Mathlib.Omega.{arith}
+use lib.IntN.{pos}
+use lib.ListN.{get_or}
+use mir.Syntax.{w16}
+use mir.ValLaws.{to_z-of_z}
+use borrow.Author.Rules.{rules}
+use Rattle.print_lines.specs.InnerText.{line_of}
+use Rattle.print_rows.specs.InnerEach.{value_text}
+use Rattle.print_rows.proofs.EachLaws.{each_turn, each_last}
+use Rattle.print_rows.proofs.lists.put_values.Goals as goal
+
+pub loop-i-preserved : goal.loop-i-preserved
+loop-i-preserved c =
+    let put = c in
+    let turn = put in
+    let l = turn.loop-i in
+    let xs = turn.args.lines.now in
+    let same = to_z-of_z w16 (get_or xs l.i (pos 0)) (search rules) in (
+      omega arith,
+      search rules,
+      omega (arith, put.put_value-to.ensures.1),
+      each_turn value_text (line_of l.line l.to) _ xs l.i (pos 0) (omega arith) (rw same at put.put_value-to.ensures.0)
+          ∙ l.invariant.3,
+    )
+
+pub returns : goal.returns
+returns c =
+    let l = c.loop-i in
+    let xs = c.args.lines.now in
+    (each_last value_text (line_of l.line l.to) xs l.i (omega arith) ∙ l.invariant.3, omega arith)
+
+pub loop-i-init : goal.loop-i-init
+loop-i-init c = (omega arith, refl, omega arith, refl)
