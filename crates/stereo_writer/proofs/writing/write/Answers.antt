@@ -1,0 +1,20 @@
+-- An unsound state is refused first; a sound one leaves the rest to `write_sound`.
+use Rattle.stereo_writer.specs.Writing.{writing, written_over}
+use mathlib.Core.Path.{sym, ◌∙◌}
+use Rattle.stereo_writer.proofs.writing.write.Goals as goal
+
+pub returns-then-not-is_sound : goal.returns-then-not-is_sound
+unfolding writing written_over
+returns-then-not-is_sound c =
+    let at-sound = c in (
+      c.refused.ensures ∙ rw (← at-sound.is_sound.ensures, c.if-not-is_sound.true),
+      rw c.refused.ensures,
+    )
+
+pub write_sound-requires : goal.write_sound-requires
+write_sound-requires c =
+    let at-sound = c in
+    sym at-sound.is_sound.ensures ∙ c.if-not-is_sound.false
+
+pub returns : goal.returns
+returns c = c.write_sound.ensures
