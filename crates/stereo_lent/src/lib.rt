@@ -46,7 +46,7 @@ fn read_apart(state: State, bytes: &[u8], start: usize, end: usize) -> Apart
 // A payload in a range of a buffer: what it holds and how many bits it used; the lent state is then the next one.
 pub fn read(state: &mut State, bytes: &[u8], start: usize, end: usize) -> Answer
     ensures { LentReadPromise
-        state.old (record { bytes = bytes.entry.now; start = start; end = end })
+        state.old (record { bytes = bytes.now; start = start; end = end })
         result state.new }
 {
     let a = read_apart(*state, bytes, start, end);

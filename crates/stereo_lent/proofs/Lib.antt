@@ -1,2 +1,0 @@
-mod Borrow
-mod Locals
