@@ -57,8 +57,7 @@ fn told(answer: &mut [u8], r: Reading) -> u32
 
 // The channel stream in the bytes from start to end of a buffer, for a sampling index: the lent outputs and the lent answer get its
 // numbers.
-#[unsafe(no_mangle)]
-pub extern "C" fn oarcradler_read_channel(
+pub fn oarcradler_read_channel(
     buf: &[u8],
     start: usize,
     end: usize,
@@ -72,10 +71,10 @@ pub extern "C" fn oarcradler_read_channel(
         (record {
           payload = record { bytes = buf.now; start = start; end = end };
           index = index;
-          outputs = record { lines = lines.entry.now; factors = factors.old; books = books.old };
+          outputs = record { lines = lines.old; factors = factors.old; books = books.old };
           answer = answer.old;
         })
-        result (record { lines = lines.exit.now; factors = factors.new; books = books.new }) answer.new }
+        result (record { lines = lines.new; factors = factors.new; books = books.new }) answer.new }
 {
     let number = call_refusal(buf.len(), start, end, 17, answer.len());
     if number != 0 {
