@@ -13,8 +13,7 @@ use c_layout::{answers, states};
 use stereo_reader::Reading;
 
 // The state before any payload is written to the front of a lent state.
-#[unsafe(no_mangle)]
-pub extern "C" fn oarcradler_fresh_state(state: &mut [u8]) -> u32
+pub fn oarcradler_fresh_state(state: &mut [u8]) -> u32
     ensures { FreshStatePromise state.old result state.new }
 {
     if state.len() < 146 {
@@ -25,8 +24,7 @@ pub extern "C" fn oarcradler_fresh_state(state: &mut [u8]) -> u32
 }
 
 // A payload is reported missing: the mark of a lent state is set out of step.
-#[unsafe(no_mangle)]
-pub extern "C" fn oarcradler_report_missing(state: &mut [u8]) -> u32
+pub fn oarcradler_report_missing(state: &mut [u8]) -> u32
     ensures { ReportMissingPromise state.old result state.new }
 {
     if !states::is_sound_at(state) {
@@ -67,8 +65,7 @@ fn told(state: &mut [u8], answer: &mut [u8], r: Reading) -> u32
 }
 
 // The stereo payload in the bytes from start to end of a buffer: a lent state is moved on, and a lent answer gets its bits and contents.
-#[unsafe(no_mangle)]
-pub extern "C" fn oarcradler_read_stereo(
+pub fn oarcradler_read_stereo(
     state: &mut [u8],
     buf: &[u8],
     start: usize,
@@ -77,11 +74,11 @@ pub extern "C" fn oarcradler_read_stereo(
 ) -> u32
     ensures { ReadStereoPromise
         (record {
-          state = state.entry.now;
+          state = state.old;
           payload = record { bytes = buf.now; start = start; end = end };
           answer = answer.old;
         })
-        result state.exit.now answer.new }
+        result state.new answer.new }
 {
     let number = stereo_refusal(state, buf.len(), start, end, answer.len());
     if number != 0 {
