@@ -26,8 +26,7 @@ fn write_refusal(state: &[u8], size: usize, room: usize) -> u32
 }
 
 // Contents are written as a stereo payload to the front of a lent output: a lent state is moved on, and a lent answer gets the bits.
-#[unsafe(no_mangle)]
-pub extern "C" fn oarcradler_write_stereo(
+pub fn oarcradler_write_stereo(
     state: &mut [u8],
     contents: &[u8],
     out: &mut [u8],
@@ -35,12 +34,12 @@ pub extern "C" fn oarcradler_write_stereo(
 ) -> u32
     ensures { WriteStereoPromise
         (record {
-          state = state.entry.now;
+          state = state.old;
           contents = contents.now;
           out = out.old;
           answer = answer.old;
         })
-        result state.exit.now out.new answer.new }
+        result state.new out.new answer.new }
 {
     let number = write_refusal(state, contents.len(), answer.len());
     if number != 0 {
