@@ -41,8 +41,7 @@ fn told_frame(answer: &mut [u8], r: Framed) -> u32
 }
 
 // The frame at a byte of a file: the lent outputs and the lent answer get its numbers.
-#[unsafe(no_mangle)]
-pub extern "C" fn oarcradler_read_frame(
+pub fn oarcradler_read_frame(
     file: &[u8],
     start: usize,
     lines: &mut [i16],
@@ -52,12 +51,12 @@ pub extern "C" fn oarcradler_read_frame(
 ) -> u32
     ensures { ReadFramePromise
         (record {
-          file = file.entry.now;
+          file = file.now;
           start = start;
-          outputs = record { lines = lines.entry.now; factors = factors.old; books = books.old };
+          outputs = record { lines = lines.old; factors = factors.old; books = books.old };
           answer = answer.old;
         })
-        result (record { lines = lines.exit.now; factors = factors.new; books = books.new }) answer.new }
+        result (record { lines = lines.new; factors = factors.new; books = books.new }) answer.new }
 {
     let number = call_refusal(file.len(), start, file.len(), 22, answer.len());
     if number != 0 {
@@ -68,15 +67,9 @@ pub extern "C" fn oarcradler_read_frame(
 }
 
 // The frame at a byte of a file: its channel stream is put at the front of a lent buffer, and the lent answer gets its numbers.
-#[unsafe(no_mangle)]
-pub extern "C" fn oarcradler_unwrap_frame(
-    file: &[u8],
-    start: usize,
-    out: &mut [u8],
-    answer: &mut [u8],
-) -> u32
+pub fn oarcradler_unwrap_frame(file: &[u8], start: usize, out: &mut [u8], answer: &mut [u8]) -> u32
     ensures { UnwrapFramePromise
-        (record { file = file.entry.now; start = start; out = out.old; answer = answer.old })
+        (record { file = file.now; start = start; out = out.old; answer = answer.old })
         result out.new answer.new }
 {
     let number = call_refusal(file.len(), start, file.len(), 22, answer.len());
@@ -111,8 +104,7 @@ fn told_wrapping(answer: &mut [u8], r: Wrapped) -> u32
 
 // The channel stream in the bytes from start to end of a buffer, for a sampling index, is put as one frame at the front of a lent buffer,
 // and the lent answer gets the frame's length.
-#[unsafe(no_mangle)]
-pub extern "C" fn oarcradler_wrap_stream(
+pub fn oarcradler_wrap_stream(
     buf: &[u8],
     start: usize,
     end: usize,
