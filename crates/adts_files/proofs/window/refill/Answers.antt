@@ -18,10 +18,10 @@ returns-then-not-w g c =
     let lost = not-true w.readable c.if-not-w.true in
     (c.requires.0, c.requires.1, (omega arith, refl), lost-enough w.ended w.readable (w.end - w.start) lost)
 
-pub returns-then-w-ge8191 : goal.returns-then-w-ge8191
-returns-then-w-ge8191 g c =
+pub returns-then-enough : goal.returns-then-enough
+returns-then-enough g c =
     let w = c.args.w in
-    (c.requires.0, c.requires.1, (omega arith, refl), many_enough w.ended w.readable (w.end - w.start) c.if-w-ge8191.true)
+    (c.requires.0, c.requires.1, (omega arith, refl), many_enough w.ended w.readable (w.end - w.start) c.if-enough.true)
 
 pub read_on-read-requires : goal.read_on-read-requires
 read_on-read-requires g c = search rules
