@@ -29,7 +29,8 @@ fn wide(x: u8) -> usize
 fn step_of(number: u8, length: usize) -> usize
     ensures { result ≡ pick (eqb number 10) 0 length }
 {
-    if number == 10 {
+    let cut_off = number == 10;
+    if cut_off {
         return 0;
     }
     length

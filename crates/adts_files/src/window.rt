@@ -92,7 +92,8 @@ pub fn refill(input: &mut impl Read, buffer: &mut [u8], w: Window) -> Window
     if !w.readable {
         return w;
     }
-    if 8191 <= w.end - w.start {
+    let enough = 8191 <= w.end - w.start;
+    if enough {
         return w;
     }
     move_front(buffer, w.start, w.end);

@@ -6,8 +6,8 @@ use Rattle.print_lines.proofs.put_accepted.Goals as goal
 
 pub returns-then-k-eq0 : goal.returns-then-k-eq0
 unfolding accepted_line
-returns-then-k-eq0 c = let put = c in rw (eq-eqb _ _ put.if-k-eq0.true) put.put_line.ensures
+returns-then-k-eq0 c = rw (eq-eqb _ _ c.if-k-eq0.true) c.put_line.ensures
 
 pub returns : goal.returns
 unfolding accepted_line
-returns c = let put = c in rw (ne_eqb _ _ put.if-k-eq0.false) put.put_line-2.ensures
+returns c = rw (ne_eqb _ _ c.if-k-eq0.false) c.put_line-2.ensures

@@ -9,9 +9,7 @@ use Rattle.print_lines.proofs.put_line.Goals as goal
 
 pub returns : goal.returns
 returns c =
-    let put = c in
-    let entry = put in
-    let a = entry.args in
+    let a = c.args in
     let text = form_text a.form.now a.numbers.now in
-    let room : length text < length a.line.now = omega (arith, form_short a.form.now a.numbers.now, entry.requires) in
-    held a.line.now _ _ text put.put_form.ensures room
+    let room : length text < length a.line.now = omega (arith, form_short a.form.now a.numbers.now, c.requires) in
+    held a.line.now _ _ text c.put_form.ensures room

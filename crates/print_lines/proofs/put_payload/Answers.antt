@@ -6,8 +6,8 @@ use Rattle.print_lines.proofs.put_payload.Goals as goal
 
 pub returns-then-p-ne0 : goal.returns-then-p-ne0
 unfolding payload_line
-returns-then-p-ne0 c = let put = c in rw (ne_eqb _ _ put.if-p-ne0.true) put.put_refused.ensures
+returns-then-p-ne0 c = rw (ne_eqb _ _ c.if-p-ne0.true) c.put_refused.ensures
 
 pub returns : goal.returns
 unfolding payload_line
-returns c = let put = c in rw (eq-eqb _ _ put.if-p-ne0.false) put.put_accepted.ensures
+returns c = rw (eq-eqb _ _ c.if-p-ne0.false) c.put_accepted.ensures

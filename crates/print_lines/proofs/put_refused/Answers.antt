@@ -10,10 +10,7 @@ use Rattle.print_lines.proofs.put_refused.Goals as goal
 pub returns : goal.returns
 unfolding refused_line
 returns c =
-    let put = c in
-    let refusal = put in
-    let entry = refusal in
-    let a = entry.args in
-    two-held a.line.now (refusal_text a.k a.number) (place_text a.told a.number a.place) refusal.put_refusal-at.ensures
-    put.put_place.ensures
-    (omega (arith, refusal-short a.k a.number, place_short a.told a.number a.place, entry.requires))
+    let a = c.args in
+    two-held a.line.now (refusal_text a.k a.number) (place_text a.told a.number a.place) c.put_refusal-at.ensures
+    c.put_place.ensures
+    (omega (arith, refusal-short a.k a.number, place_short a.told a.number a.place, c.requires))

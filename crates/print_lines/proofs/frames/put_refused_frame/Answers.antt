@@ -13,11 +13,8 @@ use Rattle.print_lines.proofs.frames.put_refused_frame.Goals as goal
 pub returns : goal.returns
 unfolding refused_frame
 returns c =
-    let put = c in
-    let form = put in
-    let entry = form in
-    let a = entry.args in
+    let a = c.args in
     let numbers = a.k ∷ a.byte ∷ a.number ∷ [] in
-    two-held a.line.now (line "# frame at # refused #" numbers) (place_text true a.number a.place) form.put_form-at.ensures
-    put.put_place.ensures
-    (omega (arith, form_short (ascii "# frame at # refused #") numbers, place_short true a.number a.place, entry.requires))
+    two-held a.line.now (line "# frame at # refused #" numbers) (place_text true a.number a.place) c.put_form-at.ensures
+    c.put_place.ensures
+    (omega (arith, form_short (ascii "# frame at # refused #") numbers, place_short true a.number a.place, c.requires))

@@ -7,22 +7,16 @@ use Rattle.print_lines.proofs.places.put_place.Goals as goal
 
 pub returns-then-not-told : goal.returns-then-not-told
 unfolding place_text with_text
-returns-then-not-told c = rw (c.if-not-told.true)
+returns-then-not-told c = rw c.if-not-told.true
 
 pub returns-then-not-judged_bit : goal.returns-then-not-judged_bit
 unfolding place_text with_text
 returns-then-not-judged_bit c =
-    let judged = c in
-    let a = judged.args in
-    let no = sym judged.judged_bit.ensures ∙ c.if-not-judged_bit.true in
-    rw (judged.if-not-told.false, no)
+    let no = sym c.judged_bit.ensures ∙ c.if-not-judged_bit.true in
+    rw (c.if-not-told.false, no)
 
 pub returns : goal.returns
 unfolding place_text
 returns c =
-    let put = c in
-    let else = put in
-    let judged = else in
-    let a = judged.args in
-    let yes = sym judged.judged_bit.ensures ∙ else.if-not-judged_bit.false in
-    rw (judged.if-not-told.false, yes) put.put_form.ensures
+    let yes = sym c.judged_bit.ensures ∙ c.if-not-judged_bit.false in
+    rw (c.if-not-told.false, yes) c.put_form.ensures

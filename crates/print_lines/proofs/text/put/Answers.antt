@@ -11,12 +11,11 @@ use Rattle.print_lines.proofs.text.put.Goals as goal
 
 pub loop-i-preserved : goal.loop-i-preserved
 loop-i-preserved c =
-    let put = c in
-    let l = put.loop-i in
-    let words = put.args.words.now in (
+    let l = c.loop-i in
+    let words = c.args.words.now in (
       omega arith,
       search rules,
-      ap (λ (x : Line). with_text x (drop (l.i + 1) words)) put.put_byte-to.ensures
+      ap (λ (x : Line). with_text x (drop (l.i + 1) words)) c.put_byte-to.ensures
           ∙ sym (text_next (line_of l.line l.to) words l.i (omega arith))
           ∙ l.invariant.2,
     )

@@ -11,30 +11,28 @@ use Rattle.print_lines.proofs.text.put_form.Goals as goal
 
 pub loop-i-preserved-then-byte-eq35 : goal.loop-i-preserved-then-byte-eq35
 loop-i-preserved-then-byte-eq35 c =
-    let put = c in
-    let l = put.loop-i in
-    let a = put.args in
+    let l = c.loop-i in
+    let a = c.args in
     let form = a.form.now in
     let numbers = a.numbers.now in (
       omega arith,
       omega arith,
       search rules,
-      ap (λ (x : Line). with_text x (form_text (drop (l.i + 1) form) (drop (l.place + 1) numbers))) put.put_marked-to.ensures
+      ap (λ (x : Line). with_text x (form_text (drop (l.i + 1) form) (drop (l.place + 1) numbers))) c.put_marked-to.ensures
           ∙ sym (form-mark (line_of l.line l.to) form numbers l.i l.place (omega arith) c.if-byte-eq35.true)
           ∙ l.invariant.3,
     )
 
 pub loop-i-preserved : goal.loop-i-preserved
 loop-i-preserved c =
-    let put = c in
-    let l = put.loop-i in
-    let a = put.args in
+    let l = c.loop-i in
+    let a = c.args in
     let form = a.form.now in
     let numbers = a.numbers.now in (
       omega arith,
       omega arith,
       search rules,
-      ap (λ (x : Line). with_text x (form_text (drop (l.i + 1) form) (drop l.place numbers))) put.put_marked-to.ensures
+      ap (λ (x : Line). with_text x (form_text (drop (l.i + 1) form) (drop l.place numbers))) c.put_marked-to.ensures
           ∙ sym (form-byte (line_of l.line l.to) form numbers l.i l.place (omega arith) c.if-byte-eq35.false)
           ∙ l.invariant.3,
     )

@@ -9,7 +9,7 @@ use Rattle.print_lines.proofs.text.put_marked.Goals as goal
 
 pub returns-then-byte-ne35 : goal.returns-then-byte-ne35
 unfolding with_text
-returns-then-byte-ne35 c = let put = c in rw (ne_eqb _ _ put.if-byte-ne35.true) put.put_byte.ensures
+returns-then-byte-ne35 c = rw (ne_eqb _ _ c.if-byte-ne35.true) c.put_byte.ensures
 
 pub returns-then-numbers-place : goal.returns-then-numbers-place
 unfolding with_text
@@ -19,7 +19,5 @@ returns-then-numbers-place c =
 
 pub returns : goal.returns
 returns c =
-    let put = c in
-    let inside = put in
-    let a = inside.args in
-    rw (eq-eqb a.byte 35 inside.if-byte-ne35.false, first-there a.numbers.now a.place (omega arith)) put.put_number.ensures
+    let a = c.args in
+    rw (eq-eqb a.byte 35 c.if-byte-ne35.false, first-there a.numbers.now a.place (omega arith)) c.put_number.ensures

@@ -11,11 +11,8 @@ use Rattle.print_rows.proofs.channels.put_bands.Goals as goal
 pub returns : goal.returns
 unfolding bands_row
 returns c =
-    let list = c in
-    let words = list in
-    let entry = words in
-    let a = entry.args in
+    let a = c.args in
     let n = band_count a.r in
-    two-held a.line.now a.words.now (numbers_text (take n a.bands.now)) words.put-at.ensures
-    (rw list.band_count.ensures at list.put_bytes.ensures)
-    (omega (arith, numbers-short n a.bands.now, entry.requires))
+    two-held a.line.now a.words.now (numbers_text (take n a.bands.now)) c.put-at.ensures
+    (rw c.band_count.ensures at c.put_bytes.ensures)
+    (omega (arith, numbers-short n a.bands.now, c.requires))

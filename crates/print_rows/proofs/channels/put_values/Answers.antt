@@ -11,13 +11,10 @@ use Rattle.print_rows.proofs.channels.put_values.Goals as goal
 pub returns : goal.returns
 unfolding values_row
 returns c =
-    let list = c in
-    let words = list in
-    let entry = words in
-    let a = entry.args in
+    let a = c.args in
     let l = line_of a.line.now 0 in
-    let start = ap (λ (x : Line). x.at) words.put-at.ensures in
+    let start = ap (λ (x : Line). x.at) c.put-at.ensures in
     let most = text_most l (ascii "  values") in
-    roomy a.line.now list.put_values.new.line list.put_values.result (values_row a.lines.now)
-    (after l (ascii "  values") (values_text a.lines.now) words.put-at.ensures list.put_values.ensures.0)
-    (omega (arith, list.put_values.ensures.1, entry.requires))
+    roomy a.line.now c.put_values.new.line c.put_values.result (values_row a.lines.now)
+    (after l (ascii "  values") (values_text a.lines.now) c.put-at.ensures c.put_values.ensures.0)
+    (omega (arith, c.put_values.ensures.1, c.requires))

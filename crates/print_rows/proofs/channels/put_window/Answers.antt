@@ -15,18 +15,15 @@ use Rattle.print_rows.proofs.channels.put_window.Goals as goal
 pub returns : goal.returns
 unfolding window_row
 returns c =
-    let list = c in
-    let form = list in
-    let entry = form in
-    let a = entry.args in
+    let a = c.args in
     let r = a.r in
     let marked = r.sequence ∷ r.shape ∷ r.max_sfb ∷ [] in
     let eight : 8 ≡ length r.groups = search rules in
     two-held a.line.now (line "  window # shape # max_sfb # groups" marked) (numbers_text (take r.group_count r.groups))
-    form.put_form-at.ensures list.put_bytes.ensures
+    c.put_form-at.ensures c.put_bytes.ensures
     (omega (
       arith,
       form_short (ascii "  window # shape # max_sfb # groups") marked,
       numbers-short r.group_count r.groups,
-      entry.requires,
+      c.requires,
     ))

@@ -7,8 +7,8 @@ use Rattle.print_rows.proofs.contents.put_extension.Goals as goal
 
 pub returns-then-x-ne1 : goal.returns-then-x-ne1
 unfolding extension_row form_text
-returns-then-x-ne1 c = let put = c in rw (ne_eqb _ _ put.if-x-ne1.true) put.put_line.ensures
+returns-then-x-ne1 c = rw (ne_eqb _ _ c.if-x-ne1.true) c.put_line.ensures
 
 pub returns : goal.returns
 unfolding extension_row
-returns c = let put = c in rw (eq-eqb _ _ put.if-x-ne1.false) put.put_part.ensures
+returns c = rw (eq-eqb _ _ c.if-x-ne1.false) c.put_part.ensures

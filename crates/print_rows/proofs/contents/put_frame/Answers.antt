@@ -15,12 +15,9 @@ use Rattle.print_rows.proofs.contents.put_frame.Goals as goal
 pub returns : goal.returns
 unfolding frame_row
 returns c =
-    let list = c in
-    let form = list in
-    let entry = form in
-    let a = entry.args in
+    let a = c.args in
     let f = a.f in
     let four : 4 ≡ length f.borders = search rules in
     two-held a.line.now (line "  class # borders" (f.class ∷ [])) (numbers_text (take (border_count f) f.borders))
-    form.put_form-at.ensures (rw list.border_count.ensures at list.put_numbers.ensures)
-    (omega (arith, form_short (ascii "  class # borders") (f.class ∷ []), numbers-short (border_count f) f.borders, entry.requires))
+    c.put_form-at.ensures (rw c.border_count.ensures at c.put_numbers.ensures)
+    (omega (arith, form_short (ascii "  class # borders") (f.class ∷ []), numbers-short (border_count f) f.borders, c.requires))

@@ -7,13 +7,10 @@ use Rattle.print_rows.proofs.contents.put_header.Goals as goal
 
 pub returns-then-h-ne1 : goal.returns-then-h-ne1
 unfolding header_row form_text
-returns-then-h-ne1 c = let put = c in rw (ne_eqb _ _ put.if-h-ne1.true) put.put_line.ensures
+returns-then-h-ne1 c = rw (ne_eqb _ _ c.if-h-ne1.true) c.put_line.ensures
 
 pub returns : goal.returns
 unfolding header_row
 returns c =
-    let put = c in
-    let icc = put in
-    let iid = icc in
-    rw (eq-eqb _ _ iid.if-h-ne1.false)
-    (rw (iid.mode-iid.ensures, icc.mode-icc.ensures) at put.put_line-2.ensures)
+    rw (eq-eqb _ _ c.if-h-ne1.false)
+    (rw (c.mode-iid.ensures, c.mode-icc.ensures) at c.put_line-2.ensures)

@@ -12,19 +12,15 @@ use Rattle.print_rows.proofs.contents.put_part.Goals as goal
 
 pub returns-then-size-eq0 : goal.returns-then-size-eq0
 unfolding part_row
-returns-then-size-eq0 c = let put = c in rw (eq-eqb _ _ put.if-size-eq0.true) put.put_line.ensures
+returns-then-size-eq0 c = rw (eq-eqb _ _ c.if-size-eq0.true) c.put_line.ensures
 
 pub returns : goal.returns
 unfolding part_row
 returns c =
-    let fill = c in
-    let form = fill in
-    let test = form in
-    let entry = test in
-    let a = entry.args in
+    let a = c.args in
     let p = a.p in
     let marked = a.size ∷ p.body.phase ∷ [] in
-    rw (ne_eqb _ _ test.if-size-eq0.false)
+    rw (ne_eqb _ _ c.if-size-eq0.false)
     (two-held a.line.now (line "  extension size # phase # fill " marked) (fill_text p.value p.count)
-    form.put_form-at.ensures fill.put_fill.ensures
-    (omega (arith, form_short (ascii "  extension size # phase # fill ") marked, fill-short p.value p.count, entry.requires)))
+    c.put_form-at.ensures c.put_fill.ensures
+    (omega (arith, form_short (ascii "  extension size # phase # fill ") marked, fill-short p.value p.count, c.requires)))

@@ -5,4 +5,4 @@ use Rattle.print_rows.proofs.envelopes.put_icc.Goals as goal
 
 pub returns : goal.returns
 unfolding icc_row
-returns c = let put = c in rw put.row_of.ensures at put.put_row.ensures
+returns c = rw c.row_of.ensures at c.put_row.ensures

@@ -5,4 +5,4 @@ use Rattle.print_rows.proofs.envelopes.put_ipd.Goals as goal
 
 pub returns : goal.returns
 unfolding ipd_row
-returns c = let put = c in rw put.phases_of-p.ensures at put.put_row.ensures
+returns c = rw c.phases_of-p.ensures at c.put_row.ensures

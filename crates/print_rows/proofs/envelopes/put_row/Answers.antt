@@ -11,10 +11,7 @@ use Rattle.print_rows.proofs.envelopes.put_row.Goals as goal
 
 pub returns : goal.returns
 returns c =
-    let list = c in
-    let words = list in
-    let entry = words in
-    let a = entry.args in
+    let a = c.args in
     let long : 34 ≡ length a.row.indices = search rules in
-    two-held a.line.now a.words.now (indices_text a.row.indices) words.put-at.ensures list.put_indices.ensures
-    (omega (arith, indices-short a.row.indices, entry.requires))
+    two-held a.line.now a.words.now (indices_text a.row.indices) c.put-at.ensures c.put_indices.ensures
+    (omega (arith, indices-short a.row.indices, c.requires))

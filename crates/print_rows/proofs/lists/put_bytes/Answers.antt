@@ -11,15 +11,13 @@ use Rattle.print_rows.proofs.lists.put_bytes.Goals as goal
 
 pub loop-i-preserved : goal.loop-i-preserved
 loop-i-preserved c =
-    let put = c in
-    let turn = put in
-    let l = turn.loop-i in
-    let a = turn.args in
+    let l = c.loop-i in
+    let a = c.args in
     let some : l.i < a.n = search rules in
     let there : l.i < length a.numbers.now = search rules in (
       omega arith,
       search rules,
-      number-turn (line_of l.line l.to) a.numbers.now a.n l.i _ some there put.put_next-to.ensures ∙ l.invariant.2,
+      number-turn (line_of l.line l.to) a.numbers.now a.n l.i _ some there c.put_next-to.ensures ∙ l.invariant.2,
     )
 
 pub returns-else-i-numbers : goal.returns-else-i-numbers

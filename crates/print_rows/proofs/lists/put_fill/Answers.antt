@@ -11,20 +11,18 @@ use Rattle.print_rows.proofs.lists.put_fill.Goals as goal
 
 pub returns-then-count-eq0 : goal.returns-then-count-eq0
 unfolding fill_text with_text
-returns-then-count-eq0 c = let put = c in rw (eq-eqb _ _ put.if-count-eq0.true) put.put_byte.ensures
+returns-then-count-eq0 c = rw (eq-eqb _ _ c.if-count-eq0.true) c.put_byte.ensures
 
 pub loop-left-init : goal.loop-left-init
 loop-left-init c = (omega (arith, c.bit_count-left.ensures), refl, rw c.bit_count-left.ensures)
 
 pub loop-left-preserved : goal.loop-left-preserved
 loop-left-preserved c =
-    let put = c in
-    let turn = put in
-    let l = turn.loop-left in
-    let value = turn.args.value in (
+    let l = c.loop-left in
+    let value = c.args.value in (
       omega arith,
       search rules,
-      bit_turn (line_of l.line l.to) _ value l.left (omega arith) (rw put.bit_of.ensures at put.put_byte-to.ensures)
+      bit_turn (line_of l.line l.to) _ value l.left (omega arith) (rw c.bit_of.ensures at c.put_byte-to.ensures)
           ∙ l.invariant.2,
     )
 
@@ -32,6 +30,5 @@ pub returns : goal.returns
 unfolding fill_text with_text
 returns c =
     let l = c.loop-left in
-    let some = c in
     let e : l.left ≡ 0 = omega arith in
-    rw (ne_eqb _ _ some.if-count-eq0.false) (rw e at l.invariant.2)
+    rw (ne_eqb _ _ c.if-count-eq0.false) (rw e at l.invariant.2)

@@ -12,18 +12,13 @@ use Rattle.print_rows.specs.InnerEach.{next_index}
 use Rattle.print_rows.proofs.lists.put_index.Goals as goal
 
 pub overflow_cast-index : goal.overflow_cast-index
-overflow_cast-index c =
-    let a = c in
-    wide_fits a.args.index a.ranges.index
+overflow_cast-index c = wide_fits c.args.index c.ranges.index
 
 pub returns : goal.returns
 unfolding next_index
 returns c =
-    let put = c in
-    let space = put in
-    let entry = space in
-    let a = entry.args in
+    let a = c.args in
     let l = line_of a.line.now a.at in
-    let f = entry.ranges.index in
+    let f = c.ranges.index in
     let same = widened w8 w16 128 a.index f (nat_abs-le a.index f.sfits) (omega arith) in
-    after l (ascii " ") (signed_text a.index) (space.put_byte-to.ensures ∙ sym (one_byte l 32)) (rw same at put.put_signed.ensures)
+    after l (ascii " ") (signed_text a.index) (c.put_byte-to.ensures ∙ sym (one_byte l 32)) (rw same at c.put_signed.ensures)

@@ -14,14 +14,12 @@ use Rattle.print_rows.proofs.lists.put_indices.Goals as goal
 
 pub loop-i-preserved : goal.loop-i-preserved
 loop-i-preserved c =
-    let put = c in
-    let turn = put in
-    let l = turn.loop-i in
-    let xs = turn.args.indices.now in
+    let l = c.loop-i in
+    let xs = c.args.indices.now in
     let same = to_z-of_z w8 (get_or xs l.i (pos 0)) (search rules) in (
       omega arith,
       search rules,
-      each_turn (λ place z. next_index z) (line_of l.line l.to) _ xs l.i (pos 0) (omega arith) (rw same at put.put_index-to.ensures)
+      each_turn (λ place z. next_index z) (line_of l.line l.to) _ xs l.i (pos 0) (omega arith) (rw same at c.put_index-to.ensures)
           ∙ l.invariant.2,
     )
 

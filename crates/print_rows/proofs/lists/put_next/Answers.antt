@@ -9,8 +9,6 @@ use Rattle.print_rows.proofs.lists.put_next.Goals as goal
 pub returns : goal.returns
 unfolding next_number
 returns c =
-    let put = c in
-    let space = put in
-    let a = space.args in
+    let a = c.args in
     let l = line_of a.line.now a.at in
-    after l (ascii " ") (number_text a.number) (space.put_byte-to.ensures ∙ sym (one_byte l 32)) put.put_number.ensures
+    after l (ascii " ") (number_text a.number) (c.put_byte-to.ensures ∙ sym (one_byte l 32)) c.put_number.ensures

@@ -19,29 +19,23 @@ use Rattle.print_rows.proofs.lists.put_value.Goals as goal
 pub returns-then-magnitude-eq0 : goal.returns-then-magnitude-eq0
 unfolding value_text with_text
 returns-then-magnitude-eq0 c =
-    let size = c in
-    let entry = size in
-    let z = entry.args.value in
-    let same = to_z-of_z w16 z entry.ranges.value in
-    let none : nat_abs z ≡ 0 = rw (size.magnitude.ensures, same) at c.if-magnitude-eq0.true in
+    let z = c.args.value in
+    let same = to_z-of_z w16 z c.ranges.value in
+    let none : nat_abs z ≡ 0 = rw (c.magnitude.ensures, same) at c.if-magnitude-eq0.true in
     (rw (eq-eqb (nat_abs z) 0 none), omega arith)
 
 pub returns : goal.returns
 unfolding value_text
 returns c =
-    let put = c in
-    let form = put in
-    let size = form in
-    let entry = size in
-    let a = entry.args in
+    let a = c.args in
     let z = a.value in
-    let same = to_z-of_z w16 z entry.ranges.value in
+    let same = to_z-of_z w16 z c.ranges.value in
     let l = line_of a.line.now a.at in
-    let text = after l (line " #:" (a.place ∷ [])) (signed_text z) form.put_form-to.ensures (rw same at put.put_signed.ensures) in
-    let some : nat_abs z ≡ 0 → ⊥ = rw (size.magnitude.ensures, same) at form.if-magnitude-eq0.false in
-    let small : nat_abs z ≤ 32768 = nat_abs-le z entry.ranges.value.sfits in
-    let whole : line_of put.put_signed.new.line put.put_signed.result ≡ with_text l (value_text a.place z) =
+    let text = after l (line " #:" (a.place ∷ [])) (signed_text z) c.put_form-to.ensures (rw same at c.put_signed.ensures) in
+    let some : nat_abs z ≡ 0 → ⊥ = rw (c.magnitude.ensures, same) at c.if-magnitude-eq0.false in
+    let small : nat_abs z ≤ 32768 = nat_abs-le z c.ranges.value.sfits in
+    let whole : line_of c.put_signed.new.line c.put_signed.result ≡ with_text l (value_text a.place z) =
     rw (ne_eqb (nat_abs z) 0 some) text in
     let most = text_most l (value_text a.place z) in
     let at = ap (λ (x : Line). x.at) whole in
-    (whole, omega (arith, value-few a.place z entry.requires small))
+    (whole, omega (arith, value-few a.place z c.requires small))

@@ -14,15 +14,13 @@ use Rattle.print_rows.proofs.lists.put_values.Goals as goal
 
 pub loop-i-preserved : goal.loop-i-preserved
 loop-i-preserved c =
-    let put = c in
-    let turn = put in
-    let l = turn.loop-i in
-    let xs = turn.args.lines.now in
+    let l = c.loop-i in
+    let xs = c.args.lines.now in
     let same = to_z-of_z w16 (get_or xs l.i (pos 0)) (search rules) in (
       omega arith,
       search rules,
-      omega (arith, put.put_value-to.ensures.1),
-      each_turn value_text (line_of l.line l.to) _ xs l.i (pos 0) (omega arith) (rw same at put.put_value-to.ensures.0)
+      omega (arith, c.put_value-to.ensures.1),
+      each_turn value_text (line_of l.line l.to) _ xs l.i (pos 0) (omega arith) (rw same at c.put_value-to.ensures.0)
           ∙ l.invariant.3,
     )
 

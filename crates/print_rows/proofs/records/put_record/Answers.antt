@@ -15,19 +15,15 @@ use Rattle.print_rows.proofs.records.put_record.Goals as goal
 
 pub returns-then-rec-eq7 : goal.returns-then-rec-eq7
 unfolding record_row
-returns-then-rec-eq7 c = let put = c in rw (eq-eqb _ _ put.if-rec-eq7.true) put.put_line.ensures
+returns-then-rec-eq7 c = rw (eq-eqb _ _ c.if-rec-eq7.true) c.put_line.ensures
 
 pub returns : goal.returns
 unfolding record_row
 returns c =
-    let list = c in
-    let form = list in
-    let test = form in
-    let entry = test in
-    let a = entry.args in
+    let a = c.args in
     let r = a.rec in
     let long : 34 ≡ length r.indices = search rules in
-    rw (ne_eqb _ _ test.if-rec-eq7.false)
-    (two-held a.line.now (form_text a.form.now (r.mode ∷ [])) (indices_text r.indices) form.put_form-at.ensures
-    list.put_indices.ensures
-    (omega (arith, form_short a.form.now (r.mode ∷ []), indices-short r.indices, entry.requires)))
+    rw (ne_eqb _ _ c.if-rec-eq7.false)
+    (two-held a.line.now (form_text a.form.now (r.mode ∷ [])) (indices_text r.indices) c.put_form-at.ensures
+    c.put_indices.ensures
+    (omega (arith, form_short a.form.now (r.mode ∷ []), indices-short r.indices, c.requires)))

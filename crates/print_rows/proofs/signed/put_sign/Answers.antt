@@ -6,11 +6,8 @@ use Rattle.print_rows.proofs.signed.put_sign.Goals as goal
 
 pub returns-then-below : goal.returns-then-below
 unfolding with_text
-returns-then-below c =
-    let put = c in
-    let entry = put in
-    rw (minus entry.args.n entry.ranges.n put.if-below.true) put.put_byte.ensures
+returns-then-below c = rw (minus c.args.n c.ranges.n c.if-below.true) c.put_byte.ensures
 
 pub returns : goal.returns
 unfolding with_text
-returns c = let entry = c in rw (no_minus entry.args.n entry.ranges.n c.if-below.false)
+returns c = rw (no_minus c.args.n c.ranges.n c.if-below.false)

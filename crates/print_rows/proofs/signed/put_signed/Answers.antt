@@ -11,11 +11,7 @@ use Rattle.print_rows.proofs.signed.put_signed.Goals as goal
 pub returns : goal.returns
 unfolding signed_text
 returns c =
-    let put = c in
-    let size = put in
-    let sign = c in
-    let entry = sign in
-    let a = entry.args in
-    let same = to_z-of_z w16 a.n entry.ranges.n in
-    after (line_of a.line.now a.at) (sign_text a.n) (number_text (nat_abs a.n)) (rw same at sign.put_sign-to.ensures)
-    (rw (size.magnitude.ensures, same) at put.put_number.ensures)
+    let a = c.args in
+    let same = to_z-of_z w16 a.n c.ranges.n in
+    after (line_of a.line.now a.at) (sign_text a.n) (number_text (nat_abs a.n)) (rw same at c.put_sign-to.ensures)
+    (rw (c.magnitude.ensures, same) at c.put_number.ensures)
