@@ -1,7 +1,7 @@
 -- Streams and rules, computed: three streams of published and made files, whose numbers two decoders agree on, and examples of the
 -- rules.
 -- Assumes nothing.
-use Prim.Native.Nat.{ℕ, ◌-◌}
+use Prim.Native.Nat.{ℕ}
 use mathlib.Core.Path.{◌≡◌, refl}
 use mathlib.Core.List.{List, [], ◌∷◌}
 use lib.IntN.{ℤ, pos, negsuc}
