@@ -107,7 +107,8 @@ def refused_archives(room, copy, given):
     os.remove(os.path.join(copy, "target", "module", "c_channel_c.checked"))
     faults = told("a module with a global", archive(copy, "armv7", **{**given, "FAKE_TEXT": bad}), 1, "a global", "c_channel_c: the width")
     done = archive(copy, "armv7", **given, OTHER_OBJECT="another")
-    faults += told("another object for x86-64", done, 1, "c_channel_c: for x86-64 the text of its module gives another object than rattle's")
+    faults += told("another object for x86-64", done, 1,
+        "c_channel_c: for x86-64 the text of its module gives another object than rattle's")
     with open(os.path.join(copy, "target", "module", "c_writer_c.o"), "a") as f:
         f.write("altered")
     done = archive(copy, "armv7", **given, NOT_TODAY="1")

@@ -30,7 +30,8 @@ header_is : (s : List ℕ)
     → placed (renumbered 10 (header s 0 56)) 0 ≡ pick (eqb (header_refusal s) 0) (got (kept s) 56) (refused (header_refusal s) 0)
 unfolding header_refusal header fixed_half variable_half syncword only sampling_index field
 header_is s =
-    go (eqb (bits_from s 0 12) 4095) (eqb (bits_from s 13 2) 0) (eqb (bits_from s 15 1) 1) (eqb (bits_from s 16 2) 1) (known_index (index_in s))
+    go (eqb (bits_from s 0 12) 4095) (eqb (bits_from s 13 2) 0) (eqb (bits_from s 15 1) 1) (eqb (bits_from s 16 2) 1)
+    (known_index (index_in s))
     (eqb (bits_from s 23 3) 1) (eqb (bits_from s 54 2) 0) refl refl refl refl refl refl refl
   where
     go : (a b c d e f g : Bool) → eqb (bits_from s 0 12) 4095 ≡ a → eqb (bits_from s 13 2) 0 ≡ b → eqb (bits_from s 15 1) 1 ≡ c

@@ -100,7 +100,8 @@ judged s at end c l narrow em ev er = er ∙ simp (ev, em) (compared_is s at end
 -- one turn of the code's loop, in which the word at i was judged
 module _ (codes lens s : List ℕ) (at end i : ℕ) (short : Bool) (hc : i < length codes) (hl : i < length lens)
     {r : Comparison} (told : Told r s at end (get_or codes i 0) (get_or lens i 0)) where
-  pub turn-found : r ≡ Fits → (got i (at + get_or lens i 0) ≡ scan (drop i codes) (drop i lens) i short s at end) × (get_or lens i 0 ≤ end - at)
+  pub turn-found : r ≡ Fits →
+      (got i (at + get_or lens i 0) ≡ scan (drop i codes) (drop i lens) i short s at end) × (get_or lens i 0 ≤ end - at)
   turn-found e =
       let fit = fits (get_or codes i 0) (get_or lens i 0) s at end in
       let cut = cut_off (get_or codes i 0) (get_or lens i 0) s at end in

@@ -17,7 +17,8 @@ with_word s end sum at t = pick (ltb t 22) (added sum (word_of (table_at t) s at
 -- a sum with n words of a list from the k-th on; a word is two numbers, its place and its table's
 unfoldable pub sum_from : List ℕ → ℕ → List ℕ → ℕ → ℕ → ℕ → ℕ
 sum_from s end words zero k sum = sum
-sum_from s end words (suc n) k sum = sum_from s end words n (k + 1) (with_word s end sum (get_or words (2 * k) 0) (get_or words (2 * k + 1) 0))
+sum_from s end words (suc n) k sum =
+    sum_from s end words n (k + 1) (with_word s end sum (get_or words (2 * k) 0) (get_or words (2 * k + 1) 0))
 
 -- the sum of a list's words, in bytes that end at a bit; 0 where the end is not in them
 unfoldable pub words_sum : List ℕ → ℕ → List ℕ → ℕ

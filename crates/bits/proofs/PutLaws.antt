@@ -110,7 +110,8 @@ unfolding put_all
 put-all-length s at [] = refl
 put-all-length s at (p ∷ ps) = put-all-length (put s at p.value p.size) (at + p.size) ps ∙ put-length s at p.value p.size
 
-pub put-all_other : (s : List ℕ) (at : ℕ) (ps : List Piece) (j : ℕ) → (j < at) ⊎ (at + total ps ≤ j) → bit_at (put_all s at ps) j ≡ bit_at s j
+pub put-all_other : (s : List ℕ) (at : ℕ) (ps : List Piece) (j : ℕ) → (j < at) ⊎ (at + total ps ≤ j) →
+    bit_at (put_all s at ps) j ≡ bit_at s j
 unfolding put_all
 put-all_other s at [] j o = refl
 put-all_other s at (p ∷ ps) j o =
@@ -164,7 +165,8 @@ put-append s t at v (suc n) h =
     rw (put-append s t at (v / 2) n (omega arith))
     (set_bit-append (put s at (v / 2) n) t (at + n) (v % 2) (omega (arith, put-length s at (v / 2) n)))
 
-pub put-all-append : (s t : List ℕ) (at : ℕ) (ps : List Piece) → at + total ps ≤ 8 * length s → put_all (s ++ t) at ps ≡ put_all s at ps ++ t
+pub put-all-append : (s t : List ℕ) (at : ℕ) (ps : List Piece) → at + total ps ≤ 8 * length s →
+    put_all (s ++ t) at ps ≡ put_all s at ps ++ t
 unfolding put_all
 put-all-append s t at [] h = refl
 put-all-append s t at (p ∷ ps) h =

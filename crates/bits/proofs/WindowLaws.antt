@@ -28,7 +28,8 @@ window_prefix s at have l h g =
     rw (q, ← shr-shr, shl-shr) (bits_from_prefix s at l m (omega arith))
 
 -- and all that are there, where they are fewer
-pub window-cut : (s : List ℕ) (at have l : ℕ) → l ≤ 24 → have < l → window_of s at have / 2 ^ (24 - l) ≡ bits_from s at have * 2 ^ (l - have)
+pub window-cut : (s : List ℕ) (at have l : ℕ) → l ≤ 24 → have < l →
+    window_of s at have / 2 ^ (24 - l) ≡ bits_from s at have * 2 ^ (l - have)
 unfolding window_of
 window-cut s at have l h g =
     let e : min 24 have ≡ have = omega arith in

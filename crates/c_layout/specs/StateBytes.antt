@@ -48,4 +48,5 @@ is_flag b = leb b 1
 -- 146 bytes are there, each flag is 0 or 1, and the state is sound
 unfoldable pub sound_bytes : List ℕ → Bool
 sound_bytes s =
-    leb 146 (length s) && (is_flag (get_or s 0 0) && is_flag (get_or s 1 0) && is_flag (get_or s 2 0) && is_flag (get_or s 5 0)) && sound (state_at s)
+    leb 146 (length s) && (is_flag (get_or s 0 0) && is_flag (get_or s 1 0) && is_flag (get_or s 2 0) && is_flag (get_or s 5 0)) && sound
+    (state_at s)

@@ -13,7 +13,8 @@ use Rattle.channel_words.specs.Books.{books, book_of}
 use Rattle.channel_words.specs.Tuple.{spectral_word, digit, signed, value, escape_at, escaped, tuple, put}
 use Rattle.channel_lines.specs.Spectrum.{band_word, band, windows_band, group_band, group_lines, spectrum}
 use Rattle.channel_side.specs.Window.{window_sequence, max_sfb_of, grouping_of, window_bands, window}
-use Rattle.channel_side.specs.Sections.{increment, section_length, section_book, fill, section, group_sections, width_of, group_books, sections}
+use Rattle.channel_side.specs.Sections.{increment, section_length, section_book, fill, section, group_sections, width_of, group_books}
+use Rattle.channel_side.specs.Sections.{sections}
 use Rattle.channel_side.specs.Factors.{factor, band_factor, first_factors, scale_factors}
 use Rattle.channel_side.specs.Pulses.{pulse, each_pulse, start_band, pulse_data, pulses, pulsed, changed, apply_pulse, apply_pulses}
 use Rattle.channel.specs.Stream.{head_of, no_tools, unpulsed, coded_of, stream_with, stream_after, stream}

@@ -19,7 +19,8 @@ rising n [] = true
 rising n (x ∷ []) = leb x n
 rising n (x ∷ (y ∷ ys)) = leb x y && rising n (y ∷ ys)
 
-risen : (n : ℕ) (xs : List ℕ) → T (rising n xs) → (b : ℕ) → suc b < length xs → (get_or xs b 0 ≤ get_or xs (suc b) 0) × (get_or xs (suc b) 0 ≤ n)
+risen : (n : ℕ) (xs : List ℕ) → T (rising n xs) → (b : ℕ) → suc b < length xs →
+    (get_or xs b 0 ≤ get_or xs (suc b) 0) × (get_or xs (suc b) 0 ≤ n)
 risen n [] t b h = absurd (omega arith)
 risen n (x ∷ []) t b h = absurd (omega arith)
 risen n (x ∷ (y ∷ [])) t zero h = (leb→le x y (and_left (leb x y) (leb y n) t), leb→le y n (and_right (leb x y) (leb y n) t))

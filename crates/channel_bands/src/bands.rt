@@ -30,7 +30,8 @@ pub fn edges() -> [usize; 129]
 
 // The part of the edges that an index has for long or short windows.
 pub fn part_of(index: u8, short: bool) -> Part
-    ensures { (take (result.last - result.first) (drop result.first all_edges) ≡ bands index short) × (result.first ≤ result.last) × (result.last ≤ 129) }
+    ensures { (take (result.last - result.first) (drop result.first all_edges) ≡ bands index short) × (result.first ≤ result.last)
+        × (result.last ≤ 129) }
 {
     if short {
         if index <= 4 {

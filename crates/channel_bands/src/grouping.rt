@@ -12,7 +12,8 @@ pub struct Groups {
 // The windows of the group that starts at a window, of eight.
 pub fn group_length(grouping: u8, from: usize) -> usize
     requires { from < 8 }
-    ensures { (groups_after (8 - from) grouping ≡ result ∷ groups_after (8 - (from + result)) grouping) × (1 ≤ result) × (from + result ≤ 8) }
+    ensures { (groups_after (8 - from) grouping ≡ result ∷ groups_after (8 - (from + result)) grouping) × (1 ≤ result)
+        × (from + result ≤ 8) }
 {
     let mut n = 1;
     while from + n < 8 {

@@ -63,7 +63,8 @@ module _ (word : Reader ℕ) (first t : ℕ) (lines : List ℤ) (s : List ℕ) (
 module _ (word : Reader ℕ) (number first width : ℕ) (lines : List ℤ) (s : List ℕ) (at end : ℕ)
     (reads : (s : List ℕ) (at end : ℕ) → word s at end ≡ spectral_word number s at end) where
   pub band-by : (dim base offset : ℕ) → book number dim base offset ≡ book_of number → eqb dim 0 ≡ false → eqb number 11 ≡ false
-      → counted 0 (width / dim) (words_by word (kind dim base offset) first) lines s at end ≡ band (book_of number) first width lines s at end
+      → counted 0 (width / dim) (words_by word (kind dim base offset) first) lines s at end
+      ≡ band (book_of number) first width lines s at end
   unfolding band
   band-by dim base offset b z n =
       rw (← b, z)
@@ -123,7 +124,8 @@ module _ (edges : List ℕ) (max_sfb : ℕ) (books : List ℕ) (bits base from :
 
 pub lines_long : (edges : List ℕ) (short : Bool) (max_sfb : ℕ) (books : List ℕ) (bits : ℕ) (lines : List ℤ) (s : List ℕ) (at end : ℕ)
     → short ≡ false
-    → counted 0 max_sfb (group_band edges books 0 0 1) lines s at end ≡ group_lines edges max_sfb books (groups_of short bits) 0 0 lines s at end
+    → counted 0 max_sfb (group_band edges books 0 0 1) lines s at end
+    ≡ group_lines edges max_sfb books (groups_of short bits) 0 0 lines s at end
 unfolding group_lines groups_of
 lines_long edges short max_sfb books bits lines s at end e =
     rw e (sym (after-give (counted 0 max_sfb (group_band edges books 0 0 1) lines s at end) s end))

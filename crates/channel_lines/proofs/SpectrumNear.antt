@@ -92,7 +92,8 @@ module _ (edges : List ℕ) (last : ℕ) (rising : Rising edges last) where
   unfolding group_band
   group-near max_sfb books base from n lines h =
       let q : 0 + max_sfb ≡ max_sfb = omega arith in
-      so_costs {all = n * get_or edges 0 0 * 33 + n * last * 33} {m = n * get_or edges 0 0 * 33} {f = λ y. n * get_or edges (0 + max_sfb) 0 * 33}
+      so_costs {all = n * get_or edges 0 0 * 33 + n * last * 33} {m = n * get_or edges 0 0 * 33} {f =
+      λ y. n * get_or edges (0 + max_sfb) 0 * 33}
       (omega arith) (λ a. rw q (omega (arith, last-band n max_sfb h)))
       (counted-costs (λ b. n * get_or edges b 0 * 33) max_sfb
       (λ b l x.

@@ -69,7 +69,8 @@ start-line index s at end b m e =
     let w = (bands-rising index false).step b (omega arith) in
     (omega arith, omega arith)
 
-pub data_each : (index : ℕ) (s : List ℕ) (at end less m start n : ℕ) → field 2 s at end ≡ got less m → start_band index s m end ≡ got start n
+pub data_each : (index : ℕ) (s : List ℕ) (at end less m start n : ℕ) → field 2 s at end ≡ got less m →
+    start_band index s m end ≡ got start n
     → each_pulse (less + 1) (get_or (bands index false) start 0) s n end ≡ pulse_data index s at end
 unfolding pulse_data first_line
 data_each index s at end less m start n e f = rw (e, f)

@@ -37,7 +37,8 @@ pub window-lawful : (index : ℕ) → Lawful (window index)
 unfolding window window_sequence window_bands
 window-lawful index = search (laws, max_sfb_of-lawful, grouping_of-lawful) depth 12
 
-groups-lawful : (width max_sfb : ℕ) → 0 < width → (ns : List ℕ) (base : ℕ) (books : List ℕ) → Lawful (group_books width max_sfb ns base books)
+groups-lawful : (width max_sfb : ℕ) → 0 < width → (ns : List ℕ) (base : ℕ) (books : List ℕ) →
+    Lawful (group_books width max_sfb ns base books)
 unfolding group_books
 groups-lawful width max_sfb h [] base books = give-lawful books
 groups-lawful width max_sfb h (n ∷ ns) base books =

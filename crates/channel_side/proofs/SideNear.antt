@@ -44,7 +44,8 @@ window-bounded index =
 
 max_sfb_of-near : (index : ℕ) (short : Bool) → Near 6 (max_sfb_of index short)
 unfolding max_sfb_of
-max_sfb_of-near index true = expecting-costs 21 _ (so_costs (omega arith) (λ v. omega arith) (field-costs {all = 6} {m = 0} 4 (omega arith)))
+max_sfb_of-near index true =
+    expecting-costs 21 _ (so_costs (omega arith) (λ v. omega arith) (field-costs {all = 6} {m = 0} 4 (omega arith)))
 max_sfb_of-near index false = expecting-costs 21 _ (field-costs 6 (omega arith))
 
 grouping_of-near : (short : Bool) → Near 7 (grouping_of short)

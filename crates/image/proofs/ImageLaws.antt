@@ -135,7 +135,8 @@ header-not_5 s = go (sound_image s)
 
 -- a header that is accepted for an output is the image's, with few payloads, and the output has room for them
 pub header-for : (each : ℕ) (s : List ℕ) (room : ℕ) → (header_for each s room).number ≡ 0
-    → (header_for each s room ≡ header_of s) × ((header_of s).number ≡ 0) × ((header_of s).count ≤ 1024) × (each * (header_of s).count ≤ room)
+    → (header_for each s room ≡ header_of s) × ((header_of s).number ≡ 0) × ((header_of s).count ≤ 1024)
+    × (each * (header_of s).count ≤ room)
 unfolding header_for
 header-for each s room = go (sound_image s) (leb (each * count_of s) room) refl
   where

@@ -82,7 +82,8 @@ channel-place p index room n place e = (channel-inside p index room n place e, c
 pub stereo-place : (st : State) (p : Range) → ((read_from st p).place ≤ 8 * length (bytes_in p)) × ((read_from st p).place ≤ 8200)
 stereo-place = stereo-inside
 
-pub frame-place : (file : List ℕ) (start : ℕ) (room : Bool) (n place : ℕ) → stream_at file start (header_at file start room) ≡ refused n place
+pub frame-place : (file : List ℕ) (start : ℕ) (room : Bool) (n place : ℕ) →
+    stream_at file start (header_at file start room) ≡ refused n place
     → place ≤ 65528
 frame-place = frame-placed
 

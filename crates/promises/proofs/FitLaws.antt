@@ -35,7 +35,8 @@ use Rattle.stereo_indices.proofs.KindLaws.{bands-le, within_abs, in_range_abs}
 use Rattle.stereo_indices.proofs.IndexLaws.{index-ranged}
 use Rattle.stereo.specs.Header.{no_header, mode, switch, header_fields, header, setup_after}
 use Rattle.stereo.specs.Frame.{envelope_count, no_borders, borders_of, borders, frame}
-use Rattle.stereo.specs.Extension.{no_phases, no_body, no_part, no_extension, phases_in, phases_next, phases_of, phases, has_mode, phase_flag, v0}
+use Rattle.stereo.specs.Extension.{no_phases, no_body, no_part, no_extension, phases_in, phases_next, phases_of, phases, has_mode}
+use Rattle.stereo.specs.Extension.{phase_flag, v0}
 use Rattle.stereo.specs.Extension.{another, part, announced, esc_count, extension_sent, extension}
 use Rattle.stereo.specs.Payload.{envelopes, payload}
 use Rattle.stereo.specs.State.{fresh_setup, fresh}
@@ -94,7 +95,8 @@ row_fits k m h =
 rows_fit : (k : Kind) (on : Bool) (m : ℕ) (h : Record) (n : ℕ) → n ≤ 4 → Gives (Four Fits) (rows k on m h n)
 unfolding rows rows_of no_rows
 rows_fit k on m h n l =
-    pick_gives on (λ e. padded-fits Fits (λ rs. row k m (record_after_rows h m rs)) (λ rs. row_fits k m (record_after_rows h m rs)) no_row 4 n l
+    pick_gives on (λ e. padded-fits Fits (λ rs. row k m (record_after_rows h m rs)) (λ rs. row_fits k m (record_after_rows h m rs))
+    no_row 4 n l
     no_row-fits)
     (λ e. give-gives (refl, every-replicate Fits 4 no_row no_row-fits))
 

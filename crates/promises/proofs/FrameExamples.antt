@@ -19,7 +19,8 @@ use Rattle.adts.specs.Promise.{header_at, stream_at}
 
 -- the definitions of frames, open
 unfoldable frames : Unit {0}
-unfolding all inside replaced put put_all packed syncword only sampling_index fixed_half variable_half header element single_channel raw_block
+unfolding all inside replaced put put_all packed syncword only sampling_index fixed_half variable_half header element single_channel
+    raw_block
     whole_header fitting frame_header each_bit cut_out spell_kind spell_voice spell_variable_half spell_block wrapping header_at
 frames = tt
 

@@ -66,7 +66,8 @@ module _ (buf : List ℕ) (start end index : ℕ) (out : List ℕ) (w : Wrapped)
       → framed_with index (frame_length bits) (accepted h bits) ≡ framed_with index w.length r
   same_answer {r = r} e f =
       let size = ap (λ (v : Wrapped). v.length) (p.0 ∙ ap wrapped_of held.2) in
-      ap (framed_with index (frame_length bits)) (ap (λ (h : Head). accepted h bits) e ∙ f) ∙ ap (λ (n : ℕ). framed_with index n r) (sym size)
+      ap (framed_with index (frame_length bits)) (ap (λ (h : Head). accepted h bits) e ∙ f)
+      ∙ ap (λ (n : ℕ). framed_with index n r) (sym size)
 
   own : channel (range_in buf start end) index true ≡ got x bits
   unfolding wrappable

@@ -30,7 +30,8 @@ use Rattle.stereo_writer.proofs.WritingLaws.{success, write_read, read-write, fo
 use Rattle.promises.proofs.Acceptance.{in-range}
 
 -- the front of a buffer
-front_in : (xs ys : List ℕ) (n : ℕ) → n ≡ length xs → (is_there (range_in (xs ++ ys) 0 n) ≡ true) × (bytes_in (range_in (xs ++ ys) 0 n) ≡ xs)
+front_in : (xs ys : List ℕ) (n : ℕ) → n ≡ length xs →
+    (is_there (range_in (xs ++ ys) 0 n) ≡ true) × (bytes_in (range_in (xs ++ ys) 0 n) ≡ xs)
 front_in xs ys n e = (
   rw (length-append xs ys, le-leb 0 n (omega arith), le-leb n (length xs + length ys) (omega arith)),
   let q : n - 0 ≡ length xs = omega arith in ap (λ (k : ℕ). take k (xs ++ ys)) q ∙ take-append_seam xs ys,

@@ -21,7 +21,8 @@ cut xs i h k =
     let e : suc (i - 1) ≡ i = omega arith in
     rw (drop-cons xs (i - 1) (pos 0) (omega arith), e)
 
-pub sounding-more : (xs : List ℤ) (i n : ℕ) → 0 < i → i ≤ length xs → n ≡ sounding (drop i xs) → (nat_abs (get_or xs (i - 1) (pos 0)) ≡ 0 → ⊥)
+pub sounding-more : (xs : List ℤ) (i n : ℕ) → 0 < i → i ≤ length xs → n ≡ sounding (drop i xs) →
+    (nat_abs (get_or xs (i - 1) (pos 0)) ≡ 0 → ⊥)
     → n + 1 ≡ sounding (drop (i - 1) xs)
 unfolding sounding
 sounding-more xs i n h k e z = rw (cut xs i h k, ne_eqb _ 0 z, e)

@@ -22,7 +22,8 @@ use Rattle.stereo.specs.Carried.{record_after, phase_records, carried_in, carrie
 use Rattle.stereo.specs.Restart.{phases_across, restart}
 
 unfoldable pub all : Unit {0}
-unfolding bit_at bits_from field zero_bit counted listed here refuse_at inside left_over ended whole fits cut_off scan word all_codes all_lens
+unfolding bit_at bits_from field zero_bit counted listed here refuse_at inside left_over ended whole fits cut_off scan word all_codes
+    all_lens
     bands least most within difference_table difference middle added zeros none agrees sound_index sound_from sound_record reference
     index_from index indices no_row no_rows row rows_of rows fresh_setup fresh sound_setup sound no_header mode switch header_fields header
     setup_after envelope_count no_borders borders_of borders no_frame frame no_phases no_body no_part no_extension phases_in phases_of

@@ -36,7 +36,8 @@ module _ (st : State) (h : Header) (f : Setup) (fr : Frame) (s : List ℕ) (at e
       → rows Iid f.iid f.iidmode st.iid fr.envelopes s at end ≡ got iid p1
       → rows Icc f.icc f.iccmode st.icc fr.envelopes s p1 end ≡ got icc p2 → (e : Ended) (x : Extension)
       → ended_answer e x ≡ extension f.ext f.iidmode st.ipd st.opd fr.envelopes s p2 end
-      → ended_answer {A = Contents} e (record { header = h; frame = fr; iid = iid; icc = icc; extension = x }) ≡ envelopes st h f fr s at end
+      → ended_answer {A = Contents} e (record { header = h; frame = fr; iid = iid; icc = icc; extension = x })
+      ≡ envelopes st h f fr s at end
   unfolding envelopes
   envelopes-rest iid p1 icc p2 q r (At m) x w = rw (q, r, ← w)
   envelopes-rest iid p1 icc p2 q r (Refused n place) x w = rw (q, r, ← w)

@@ -137,10 +137,12 @@ added_abs k mode x e h g = go (is_phase k)
 -- the code's difference and sum
 pub code-difference : (k : Kind) (mode e : ℕ) (m : ℤ) → e ≤ 60 → m ≡ pos (middle k mode)
     → to_z w16 e -ℤ to_z w16 (of_z w16 m) ≡ pos e -ℤ pos (middle k mode)
-code-difference k mode e m h q = let l : e < 2 ^ 15 = omega arith in rw (to_z_pos w16 e l, through w16 30 q (middle-le k mode) (omega arith))
+code-difference k mode e m h q = let l : e < 2 ^ 15 = omega arith in
+    rw (to_z_pos w16 e l, through w16 30 q (middle-le k mode) (omega arith))
 
 pub code_sum : (k : Kind) (mode e : ℕ) (x m : ℤ) → e ≤ 60 → SFits w8 x → m ≡ pos (middle k mode)
-    → to_z w16 (of_z w16 (to_z w8 (of_z w8 x))) +ℤ to_z w16 (of_z w16 (to_z w16 e -ℤ to_z w16 (of_z w16 m))) ≡ x +ℤ (pos e -ℤ pos (middle k mode))
+    → to_z w16 (of_z w16 (to_z w8 (of_z w8 x))) +ℤ to_z w16 (of_z w16 (to_z w16 e -ℤ to_z w16 (of_z w16 m)))
+    ≡ x +ℤ (pos e -ℤ pos (middle k mode))
 code_sum k mode e x m h f q = rw (wide_is x f, through w16 90 (code-difference k mode e m h q) (difference_abs k mode e h) (omega arith))
 
 pub sum_abs : (k : Kind) (mode e : ℕ) (x : ℤ) → e ≤ 60 → SFits w8 x → nat_abs (x +ℤ (pos e -ℤ pos (middle k mode))) ≤ 218

@@ -2,7 +2,8 @@
 use Rattle.std.specs.Prelude.{ℕ, ◌+◌, ◌%◌, eqb, ℤ, pos, ◌+ℤ◌, ◌-ℤ◌, nat_abs}
 use Rattle.bits.specs.Reader.{Reader, pick}
 use Rattle.tables.specs.Tables.{Table, word_of}
-use Rattle.tables.specs.GeneratedNames.{level_default_frequency, level_default_time, level_fine_frequency, level_fine_time, coherence_frequency}
+use Rattle.tables.specs.GeneratedNames.{level_default_frequency, level_default_time, level_fine_frequency, level_fine_time}
+use Rattle.tables.specs.GeneratedNames.{coherence_frequency}
 use Rattle.tables.specs.GeneratedNames.{coherence_time}
 use Rattle.tables.specs.GeneratedNames.{phase_frequency, phase_time, overall_phase_frequency, overall_phase_time}
 use Rattle.stereo_indices.specs.Kind.{is_phase, fine, by_kind}

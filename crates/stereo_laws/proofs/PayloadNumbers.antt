@@ -28,7 +28,8 @@ use Rattle.stereo_indices.specs.declared.Kind.{Kind}
 use Rattle.stereo_indices.specs.declared.Record.{Record}
 use Rattle.stereo.specs.Header.{mode, switch, header_fields, header}
 use Rattle.stereo.specs.Frame.{borders_of, borders, frame}
-use Rattle.stereo.specs.Extension.{phases_in, phases_of, phases, phase_flag, v0, another, part, announced, esc_count, extension_sent, extension}
+use Rattle.stereo.specs.Extension.{phases_in, phases_of, phases, phase_flag, v0, another, part, announced, esc_count, extension_sent}
+use Rattle.stereo.specs.Extension.{extension}
 use Rattle.stereo.specs.Payload.{envelopes, payload}
 use Rattle.stereo.specs.declared.Setup.{Setup}
 use Rattle.stereo.specs.declared.State.{State}

@@ -26,7 +26,8 @@ use Rattle.stereo_indices.specs.declared.Record.{Record}
 use Rattle.stereo_indices.specs.declared.Row.{Row}
 use Rattle.stereo.specs.Header.{header, setup_after}
 use Rattle.stereo.specs.Frame.{frame}
-use Rattle.stereo.specs.Extension.{no_phases, phases_in, phases_next, phases_of, phases, phase_flag, v0, another, part, announced, esc_count}
+use Rattle.stereo.specs.Extension.{no_phases, phases_in, phases_next, phases_of, phases, phase_flag, v0, another, part, announced}
+use Rattle.stereo.specs.Extension.{esc_count}
 use Rattle.stereo.specs.Extension.{extension_sent, extension}
 use Rattle.stereo.specs.Payload.{envelopes, payload}
 use Rattle.stereo.specs.Carried.{record_after, phase_records, carried_in, carried}

@@ -31,7 +31,8 @@ use Rattle.stereo_indices.proofs.IndexLaws.{index-ranged}
 use Rattle.stereo.specs.State.{is_sent, sound_setup, sound}
 use Rattle.stereo.specs.Header.{no_header, mode, switch, header_fields, header, setup_after}
 use Rattle.stereo.specs.Frame.{frame}
-use Rattle.stereo.specs.Extension.{no_phases, no_body, no_part, no_extension, phases_in, phases_next, phases_of, phases, has_mode, phase_flag, v0}
+use Rattle.stereo.specs.Extension.{no_phases, no_body, no_part, no_extension, phases_in, phases_next, phases_of, phases, has_mode}
+use Rattle.stereo.specs.Extension.{phase_flag, v0}
 use Rattle.stereo.specs.Extension.{another, part, announced, esc_count, extension_sent, extension}
 use Rattle.stereo.specs.Payload.{envelopes, payload}
 use Rattle.stereo.specs.Carried.{record_after, phase_records, carried_in, carried}
@@ -156,7 +157,8 @@ module _ (m : ℕ) where
     phases-gives : (on : ℕ) → (eqb on 1 ≡ true → is_none m ≡ false) → Gives (Every SoundPhases) (phases on m ipd opd n)
     unfolding phases phases_of
     phases-gives on o =
-        pick_gives (eqb on 1) (λ e. padded-gives SoundPhases (phases_next m ipd opd) (λ ps. phases_in-gives (o e) _ _) no_phases 4 n no-phases)
+        pick_gives (eqb on 1)
+        (λ e. padded-gives SoundPhases (phases_next m ipd opd) (λ ps. phases_in-gives (o e) _ _) no_phases 4 n no-phases)
         (λ e. give-gives (every-replicate SoundPhases 4 no_phases no-phases))
 
     v0-gives : Gives SoundBody (v0 m ipd opd n)
@@ -172,7 +174,8 @@ module _ (m : ℕ) where
 
     announced-gives : (size : ℕ) → Gives SoundPart (announced m ipd opd n size)
     unfolding announced no_part
-    announced-gives size = pick_gives (eqb size 0) (λ e. give-gives no_body_sound) (λ e. inside-gives (8 * size) 33 (part m ipd opd n) part_gives)
+    announced-gives size =
+        pick_gives (eqb size 0) (λ e. give-gives no_body_sound) (λ e. inside-gives (8 * size) 33 (part m ipd opd n) part_gives)
 
     extension-gives : (on : Bool) → Gives SoundExtension (extension on m ipd opd n)
     unfolding extension extension_sent no_extension no_part

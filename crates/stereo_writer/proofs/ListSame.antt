@@ -78,7 +78,8 @@ module _ {A : Type 0} (same : A → A → Bool) (z : A) where
   look-start n xs ys h g = record { within = omega arith; first = h; second = g; rest = refl }
 
   next : (i : ℕ) (xs ys : List A) → i < length xs → i < length ys
-      → same_list same (drop i xs) (drop i ys) ≡ (same (get_or xs i z) (get_or ys i z) && same_list same (drop (suc i) xs) (drop (suc i) ys))
+      → same_list same (drop i xs) (drop i ys)
+      ≡ (same (get_or xs i z) (get_or ys i z) && same_list same (drop (suc i) xs) (drop (suc i) ys))
   next i [] ys h g = absurd (omega arith)
   next i (x ∷ xs) [] h g = absurd (omega arith)
   next zero (x ∷ xs) (y ∷ ys) h g = refl

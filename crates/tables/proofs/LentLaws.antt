@@ -127,7 +127,8 @@ module _ (i : ℕ) (h : i < 10) where
 
   -- an entry that there is
   pub entry_is : (k : ℕ) → k < (table_at (i + 12)).count
-      → let w = get_or stereo_words (first_word i + k) 0 in (piece (w / 32) (w % 32) ∷ [] ≡ spell_word (table_at (i + 12)) k) × (w % 32 ≤ 20)
+      → let w = get_or stereo_words (first_word i + k) 0 in
+      (piece (w / 32) (w % 32) ∷ [] ≡ spell_word (table_at (i + 12)) k) × (w % 32 ≤ 20)
   entry_is k g =
       let w = get_or stereo_words (first_word i + k) 0 in
       let a = eqb (w / 32) (get_or (codes_of (table_at (i + 12))) k 0) in

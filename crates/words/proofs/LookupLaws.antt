@@ -174,7 +174,8 @@ module _ (codes lens : List ℕ) (free : T (prefix_free codes lens)) (s : List �
 
   -- where they are not, the word that is left before the last of them is cut off
   begun-cut : T (apart first l codes lens) → end - at < l → (j : ℕ) → j < length codes → j < length lens
-      → is_prefix (first / 2) (l - 1) (get_or codes j 0) (get_or lens j 0) ≡ true → cut_off (get_or codes j 0) (get_or lens j 0) s at end ≡ true
+      → is_prefix (first / 2) (l - 1) (get_or codes j 0) (get_or lens j 0) ≡ true →
+      cut_off (get_or codes j 0) (get_or lens j 0) s at end ≡ true
   begun-cut a g j hc hl e =
       let c = get_or codes j 0 in
       let m = get_or lens j 0 in

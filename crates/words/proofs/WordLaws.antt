@@ -100,7 +100,8 @@ module _ (cs ls : List ℕ) (f : T (prefix_free cs ls)) where
 
   -- where it is cut off, none fits
   cut-none : (s : List ℕ) (at end end' k : ℕ) → k < length cs → k < length ls → fits (get_or cs k 0) (get_or ls k 0) s at end ≡ true
-      → end' < at + get_or ls k 0 → at ≤ end' → (j : ℕ) → j < length cs → j < length ls → fits (get_or cs j 0) (get_or ls j 0) s at end' ≡ false
+      → end' < at + get_or ls k 0 → at ≤ end' → (j : ℕ) → j < length cs → j < length ls →
+      fits (get_or cs j 0) (get_or ls j 0) s at end' ≡ false
   cut-none s at end end' k h g e l o j a b = go (fits (get_or cs j 0) (get_or ls j 0) s at end') refl
     where
       go : (x : Bool) → fits (get_or cs j 0) (get_or ls j 0) s at end' ≡ x → x ≡ false

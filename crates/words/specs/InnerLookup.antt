@@ -1,6 +1,7 @@
 -- For contracts of inner functions only: lookup tables. An element below 16,384 is a leaf: 32 times an entry, and the length of its word.
 -- Another is a link: 2,048 times 8 more than a count of further bits, and the place of the part that these bits choose from.
-use Rattle.std.specs.Prelude.{ℕ, zero, suc, ◌+◌, ◌*◌, ◌-◌, ◌/◌, ◌%◌, ◌^◌, List, [], ◌∷◌, Bool, true, false, ◌&&◌, ◌||◌, leb, ltb, eqb, length, get_or}
+use Rattle.std.specs.Prelude.{ℕ, zero, suc, ◌+◌, ◌*◌, ◌-◌, ◌/◌, ◌%◌, ◌^◌, List, [], ◌∷◌, Bool, true, false, ◌&&◌, ◌||◌, leb, ltb, eqb}
+use Rattle.std.specs.Prelude.{length, get_or}
 use Rattle.bits.specs.Reader.{Answer, got, refused, Reader, pick}
 use Rattle.bits.specs.InnerWindow.{window_of}
 use Rattle.words.specs.Table.{is_prefix, apart}
@@ -71,7 +72,8 @@ right_element zero look codes lens d p e = right_leaf codes lens d p e
 right_element (suc n) look codes lens d p e =
     pick (ltb e 16384) (right_leaf codes lens d p e)
     (leb (d + further e) 24
-    && all_below (2 ^ further e) (λ j. right_element n look codes lens (d + further e) (p * 2 ^ further e + j) (get_or look (e % 2048 + j) 0)))
+    && all_below (2 ^ further e)
+    (λ j. right_element n look codes lens (d + further e) (p * 2 ^ further e + j) (get_or look (e % 2048 + j) 0)))
 
 -- a lookup of a table of words, by k bits first: each of the first elements leads to right leaves
 abbrev pub right_lookup : ℕ → List ℕ → List ℕ → List ℕ → Bool

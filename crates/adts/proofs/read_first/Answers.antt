@@ -18,7 +18,12 @@ returns-in-At c =
     let header = read in
     let h = rw header.if-header-ne0.false at header.read_header-header.ensures.result_value in
     let e = rw read.in-At.is at read.read_block-read.ensures in
-    rw (← h, e.2) (record { value = c.with_header.ensures ∙ rw c.answer.ensures; lines_after = lines.copy_lines.ensures ∙ rw e.1; factors_after = factors.copy_bands.ensures; books_after = books.copy_bands-in-At.ensures })
+    rw (← h, e.2) (record {
+      value = c.with_header.ensures ∙ rw c.answer.ensures;
+      lines_after = lines.copy_lines.ensures ∙ rw e.1;
+      factors_after = factors.copy_bands.ensures;
+      books_after = books.copy_bands-in-At.ensures;
+    })
 
 pub returns-in-Refused : goal.returns-in-Refused
 returns-in-Refused c =
@@ -26,4 +31,9 @@ returns-in-Refused c =
     let header = read in
     let h = rw header.if-header-ne0.false at header.read_header-header.ensures.result_value in
     let e = rw read.in-Refused.is at read.read_block-read.ensures in
-    rw (← h, e) (record { value = c.with_header-in-Refused.ensures ∙ rw c.refused.ensures; lines_after = refl; factors_after = refl; books_after = refl })
+    rw (← h, e) (record {
+      value = c.with_header-in-Refused.ensures ∙ rw c.refused.ensures;
+      lines_after = refl;
+      factors_after = refl;
+      books_after = refl;
+    })

@@ -24,14 +24,16 @@ returns-then-not-outputs_fit c =
 pub read_first-requires : goal.read_first-requires
 read_first-requires c =
     -- past the judgement the outputs fit
-    let roomy : outputs_fit (length c.args.lines.now) (length c.args.factors.now) (length c.args.books.now) ≡ true = sym c.outputs_fit.ensures ∙ c.if-not-outputs_fit.false in
+    let roomy : outputs_fit (length c.args.lines.now) (length c.args.factors.now) (length c.args.books.now) ≡ true =
+    sym c.outputs_fit.ensures ∙ c.if-not-outputs_fit.false in
     outputs-room _ _ _ roomy
 
 pub returns : goal.returns
 unfolding header_at
 returns c =
     -- past the judgement the outputs fit
-    let roomy : outputs_fit (length c.args.lines.now) (length c.args.factors.now) (length c.args.books.now) ≡ true = sym c.outputs_fit.ensures ∙ c.if-not-outputs_fit.false in
+    let roomy : outputs_fit (length c.args.lines.now) (length c.args.factors.now) (length c.args.books.now) ≡ true =
+    sym c.outputs_fit.ensures ∙ c.if-not-outputs_fit.false in
     let read = c in
     let judged = read in
     let a = judged.args in

@@ -25,7 +25,8 @@ pub slice_bounds-wrap_slice-count : goal.slice_bounds-wrap_slice-count
 slice_bounds-wrap_slice-count c =
     let tests : List Test = let a = c.args in channel_tests (in_buffer a.start a.end (length a.buf.now)) true a.index in
     -- past the judgement the range lies in the buffer
-    let well : (c.args.start ≤ c.args.end) × (c.args.end ≤ length c.args.buf.now) = let passed = all-passed tests tt (sym c.channel_refusal-number.ensures ∙ c.if-number-ne0.false) in
+    let well : (c.args.start ≤ c.args.end) × (c.args.end ≤ length c.args.buf.now) = let passed =
+    all-passed tests tt (sym c.channel_refusal-number.ensures ∙ c.if-number-ne0.false) in
     range-in _ _ _ passed.0 in
     well.0
 
@@ -33,7 +34,8 @@ pub slice_bounds-wrap_slice-start : goal.slice_bounds-wrap_slice-start
 slice_bounds-wrap_slice-start c =
     let tests : List Test = let a = c.args in channel_tests (in_buffer a.start a.end (length a.buf.now)) true a.index in
     -- past the judgement the range lies in the buffer
-    let well : (c.args.start ≤ c.args.end) × (c.args.end ≤ length c.args.buf.now) = let passed = all-passed tests tt (sym c.channel_refusal-number.ensures ∙ c.if-number-ne0.false) in
+    let well : (c.args.start ≤ c.args.end) × (c.args.end ≤ length c.args.buf.now) = let passed =
+    all-passed tests tt (sym c.channel_refusal-number.ensures ∙ c.if-number-ne0.false) in
     range-in _ _ _ passed.0 in
     let w = well in search rules
 
@@ -41,7 +43,8 @@ pub slice_bounds-wrap_slice-end : goal.slice_bounds-wrap_slice-end
 slice_bounds-wrap_slice-end c =
     let tests : List Test = let a = c.args in channel_tests (in_buffer a.start a.end (length a.buf.now)) true a.index in
     -- past the judgement the range lies in the buffer
-    let well : (c.args.start ≤ c.args.end) × (c.args.end ≤ length c.args.buf.now) = let passed = all-passed tests tt (sym c.channel_refusal-number.ensures ∙ c.if-number-ne0.false) in
+    let well : (c.args.start ≤ c.args.end) × (c.args.end ≤ length c.args.buf.now) = let passed =
+    all-passed tests tt (sym c.channel_refusal-number.ensures ∙ c.if-number-ne0.false) in
     range-in _ _ _ passed.0 in
     let w = well in search rules
 
@@ -52,4 +55,7 @@ returns c =
     let judged = wrapped in
     let a = judged.args in
     let z = sym judged.channel_refusal-number.ensures ∙ judged.if-number-ne0.false in
-    rw (channel-is (range_in a.buf.now a.start a.end) a.index true z) (wrapped.wrap_slice.ensures.value, wrapped.wrap_slice.ensures.out_after)
+    rw (channel-is (range_in a.buf.now a.start a.end) a.index true z) (
+      wrapped.wrap_slice.ensures.value,
+      wrapped.wrap_slice.ensures.out_after,
+    )

@@ -29,7 +29,8 @@ overflow_mul-result c =
     let first-is : let x = c.args in
     field (x.n - 20) x.src.now x.at x.end ≡ got c.in-Got.high c.in-Got.middle = answered c.read_field.ensures c.in-Got.is in
     let second_is : let x = c.args in
-    field 20 x.src.now c.in-Got.middle x.end ≡ got c.in-Got-read_field.low c.in-Got-read_field.next = answered c.read_field-2.ensures c.in-Got-read_field.is in
+    field 20 x.src.now c.in-Got.middle x.end ≡ got c.in-Got-read_field.low c.in-Got-read_field.next =
+    answered c.read_field-2.ensures c.in-Got-read_field.is in
     -- the halves have at most 12 and 20 bits
     let below : (c.in-Got.high < 4096) × (c.in-Got-read_field.low < 1048576) = let entry = c in
     let x = entry.args in
@@ -41,7 +42,8 @@ overflow_add-result c =
     let first-is : let x = c.args in
     field (x.n - 20) x.src.now x.at x.end ≡ got c.in-Got.high c.in-Got.middle = answered c.read_field.ensures c.in-Got.is in
     let second_is : let x = c.args in
-    field 20 x.src.now c.in-Got.middle x.end ≡ got c.in-Got-read_field.low c.in-Got-read_field.next = answered c.read_field-2.ensures c.in-Got-read_field.is in
+    field 20 x.src.now c.in-Got.middle x.end ≡ got c.in-Got-read_field.low c.in-Got-read_field.next =
+    answered c.read_field-2.ensures c.in-Got-read_field.is in
     -- the halves have at most 12 and 20 bits
     let below : (c.in-Got.high < 4096) × (c.in-Got-read_field.low < 1048576) = let entry = c in
     let x = entry.args in
@@ -53,7 +55,8 @@ returns c =
     let first-is : let x = c.args in
     field (x.n - 20) x.src.now x.at x.end ≡ got c.in-Got.high c.in-Got.middle = answered c.read_field.ensures c.in-Got.is in
     let second_is : let x = c.args in
-    field 20 x.src.now c.in-Got.middle x.end ≡ got c.in-Got-read_field.low c.in-Got-read_field.next = answered c.read_field-2.ensures c.in-Got-read_field.is in
+    field 20 x.src.now c.in-Got.middle x.end ≡ got c.in-Got-read_field.low c.in-Got-read_field.next =
+    answered c.read_field-2.ensures c.in-Got-read_field.is in
     let entry = c in
     let x = entry.args in
     both x.n _ x.at x.end entry.requires.1 first-is second_is

@@ -41,7 +41,8 @@ state_at-before-requires c =
     ◌∙◌ {b = j.result} (sym j.ensures) c.if-number-ne0.false in
     -- so the answer has room, the state is sound, and the range lies in the buffer
     let passed : let a = c.args in
-    (582 ≤ length a.answer.now) × (sound_bytes a.state.now ≡ true) × (a.start ≤ a.end) × (a.end ≤ length a.buf.now) = stereo-passed _ _ _ _ _ unrefused in
+    (582 ≤ length a.answer.now) × (sound_bytes a.state.now ≡ true) × (a.start ≤ a.end) × (a.end ≤ length a.buf.now) =
+    stereo-passed _ _ _ _ _ unrefused in
     -- and a sound state has its bytes
     let long : 146 ≤ length c.args.state.now = sound-long _ passed.1 in
     long
@@ -59,7 +60,8 @@ slice_bounds-read_bytes-count c =
     ◌∙◌ {b = j.result} (sym j.ensures) c.if-number-ne0.false in
     -- so the answer has room, the state is sound, and the range lies in the buffer
     let passed : let a = c.args in
-    (582 ≤ length a.answer.now) × (sound_bytes a.state.now ≡ true) × (a.start ≤ a.end) × (a.end ≤ length a.buf.now) = stereo-passed _ _ _ _ _ unrefused in
+    (582 ≤ length a.answer.now) × (sound_bytes a.state.now ≡ true) × (a.start ≤ a.end) × (a.end ≤ length a.buf.now) =
+    stereo-passed _ _ _ _ _ unrefused in
     omega (arith, passed.2, passed.3)
 
 pub slice_bounds-read_bytes-start : goal.slice_bounds-read_bytes-start
@@ -75,7 +77,8 @@ slice_bounds-read_bytes-start c =
     ◌∙◌ {b = j.result} (sym j.ensures) c.if-number-ne0.false in
     -- so the answer has room, the state is sound, and the range lies in the buffer
     let passed : let a = c.args in
-    (582 ≤ length a.answer.now) × (sound_bytes a.state.now ≡ true) × (a.start ≤ a.end) × (a.end ≤ length a.buf.now) = stereo-passed _ _ _ _ _ unrefused in
+    (582 ≤ length a.answer.now) × (sound_bytes a.state.now ≡ true) × (a.start ≤ a.end) × (a.end ≤ length a.buf.now) =
+    stereo-passed _ _ _ _ _ unrefused in
     omega (arith, passed.2, passed.3)
 
 pub slice_bounds-read_bytes-end : goal.slice_bounds-read_bytes-end
@@ -91,7 +94,8 @@ slice_bounds-read_bytes-end c =
     ◌∙◌ {b = j.result} (sym j.ensures) c.if-number-ne0.false in
     -- so the answer has room, the state is sound, and the range lies in the buffer
     let passed : let a = c.args in
-    (582 ≤ length a.answer.now) × (sound_bytes a.state.now ≡ true) × (a.start ≤ a.end) × (a.end ≤ length a.buf.now) = stereo-passed _ _ _ _ _ unrefused in
+    (582 ≤ length a.answer.now) × (sound_bytes a.state.now ≡ true) × (a.start ≤ a.end) × (a.end ≤ length a.buf.now) =
+    stereo-passed _ _ _ _ _ unrefused in
     omega (arith, passed.2, passed.3)
 
 pub told-requires : goal.told-requires
@@ -107,7 +111,8 @@ told-requires c =
     ◌∙◌ {b = j.result} (sym j.ensures) c.if-number-ne0.false in
     -- so the answer has room, the state is sound, and the range lies in the buffer
     let passed : let a = c.args in
-    (582 ≤ length a.answer.now) × (sound_bytes a.state.now ≡ true) × (a.start ≤ a.end) × (a.end ≤ length a.buf.now) = stereo-passed _ _ _ _ _ unrefused in
+    (582 ≤ length a.answer.now) × (sound_bytes a.state.now ≡ true) × (a.start ≤ a.end) × (a.end ≤ length a.buf.now) =
+    stereo-passed _ _ _ _ _ unrefused in
     -- and a sound state has its bytes
     let long : 146 ≤ length c.args.state.now = sound-long _ passed.1 in
     -- the reader's answer is the one of the definition

@@ -31,7 +31,8 @@ returns-then-number-ne0 c =
 pub state_at-before-requires : goal.state_at-before-requires
 state_at-before-requires c =
     -- past the first test nothing was refused before the contents are written
-    let unrefused : let a = c.args in first_number (write_tests a.state.now (length a.contents.now) (length a.answer.now)) ≡ 0 = sym c.write_refusal-number.ensures ∙ c.if-number-ne0.false in
+    let unrefused : let a = c.args in first_number (write_tests a.state.now (length a.contents.now) (length a.answer.now)) ≡ 0 =
+    sym c.write_refusal-number.ensures ∙ c.if-number-ne0.false in
     -- so the state is sound, and the contents and the answer have their bytes
     let passed : let a = c.args in
     (sound_bytes a.state.now ≡ true) × (582 ≤ length a.contents.now) × (4 ≤ length a.answer.now) = write-passed _ _ _ unrefused in
@@ -40,7 +41,8 @@ state_at-before-requires c =
 pub contents_at-wanted-requires : goal.contents_at-wanted-requires
 contents_at-wanted-requires c =
     -- past the first test nothing was refused before the contents are written
-    let unrefused : let a = c.args in first_number (write_tests a.state.now (length a.contents.now) (length a.answer.now)) ≡ 0 = sym c.write_refusal-number.ensures ∙ c.if-number-ne0.false in
+    let unrefused : let a = c.args in first_number (write_tests a.state.now (length a.contents.now) (length a.answer.now)) ≡ 0 =
+    sym c.write_refusal-number.ensures ∙ c.if-number-ne0.false in
     -- so the state is sound, and the contents and the answer have their bytes
     let passed : let a = c.args in
     (sound_bytes a.state.now ≡ true) × (582 ≤ length a.contents.now) × (4 ≤ length a.answer.now) = write-passed _ _ _ unrefused in
@@ -49,7 +51,8 @@ contents_at-wanted-requires c =
 pub write_sound-w-requires : goal.write_sound-w-requires
 write_sound-w-requires c =
     -- past the first test nothing was refused before the contents are written
-    let unrefused : let a = c.args in first_number (write_tests a.state.now (length a.contents.now) (length a.answer.now)) ≡ 0 = sym c.write_refusal-number.ensures ∙ c.if-number-ne0.false in
+    let unrefused : let a = c.args in first_number (write_tests a.state.now (length a.contents.now) (length a.answer.now)) ≡ 0 =
+    sym c.write_refusal-number.ensures ∙ c.if-number-ne0.false in
     -- so the state is sound, and the contents and the answer have their bytes
     let passed : let a = c.args in
     (sound_bytes a.state.now ≡ true) × (582 ≤ length a.contents.now) × (4 ≤ length a.answer.now) = write-passed _ _ _ unrefused in
@@ -75,7 +78,8 @@ returns-then-w-ne0 c =
     λ z e. ap₂ (λ (x : State) (y : Contents). written_over z x y out) st cs ∙ ap (λ (u : Written). written_over u before sent out) e in
     (r, c.write_sound-w.ensures.1 ∙ over c.write_sound-w.result r) in
     -- past the first test nothing was refused before the contents are written
-    let unrefused : let a = c.args in first_number (write_tests a.state.now (length a.contents.now) (length a.answer.now)) ≡ 0 = sym c.write_refusal-number.ensures ∙ c.if-number-ne0.false in
+    let unrefused : let a = c.args in first_number (write_tests a.state.now (length a.contents.now) (length a.answer.now)) ≡ 0 =
+    sym c.write_refusal-number.ensures ∙ c.if-number-ne0.false in
     let r = wrote.0 in
     let ends = contents-refused given unrefused (rw r at c.if-w-ne0.true) in
     (ap (λ (z : Written). z.number) r ∙ ends.0, (ends.1.0, (wrote.1 ∙ ends.1.1.0, ends.1.1.1)))
@@ -83,7 +87,8 @@ returns-then-w-ne0 c =
 pub put_state-requires : goal.put_state-requires
 put_state-requires c =
     -- past the first test nothing was refused before the contents are written
-    let unrefused : let a = c.args in first_number (write_tests a.state.now (length a.contents.now) (length a.answer.now)) ≡ 0 = sym c.write_refusal-number.ensures ∙ c.if-number-ne0.false in
+    let unrefused : let a = c.args in first_number (write_tests a.state.now (length a.contents.now) (length a.answer.now)) ≡ 0 =
+    sym c.write_refusal-number.ensures ∙ c.if-number-ne0.false in
     -- so the state is sound, and the contents and the answer have their bytes
     let passed : let a = c.args in
     (sound_bytes a.state.now ≡ true) × (582 ≤ length a.contents.now) × (4 ≤ length a.answer.now) = write-passed _ _ _ unrefused in
@@ -92,7 +97,8 @@ put_state-requires c =
 pub put-requires : goal.put-requires
 put-requires c =
     -- past the first test nothing was refused before the contents are written
-    let unrefused : let a = c.args in first_number (write_tests a.state.now (length a.contents.now) (length a.answer.now)) ≡ 0 = sym c.write_refusal-number.ensures ∙ c.if-number-ne0.false in
+    let unrefused : let a = c.args in first_number (write_tests a.state.now (length a.contents.now) (length a.answer.now)) ≡ 0 =
+    sym c.write_refusal-number.ensures ∙ c.if-number-ne0.false in
     -- so the state is sound, and the contents and the answer have their bytes
     let passed : let a = c.args in
     (sound_bytes a.state.now ≡ true) × (582 ≤ length a.contents.now) × (4 ≤ length a.answer.now) = write-passed _ _ _ unrefused in
@@ -118,7 +124,8 @@ returns c =
     λ z e. ap₂ (λ (x : State) (y : Contents). written_over z x y out) st cs ∙ ap (λ (u : Written). written_over u before sent out) e in
     (r, c.write_sound-w.ensures.1 ∙ over c.write_sound-w.result r) in
     -- past the first test nothing was refused before the contents are written
-    let unrefused : let a = c.args in first_number (write_tests a.state.now (length a.contents.now) (length a.answer.now)) ≡ 0 = sym c.write_refusal-number.ensures ∙ c.if-number-ne0.false in
+    let unrefused : let a = c.args in first_number (write_tests a.state.now (length a.contents.now) (length a.answer.now)) ≡ 0 =
+    sym c.write_refusal-number.ensures ∙ c.if-number-ne0.false in
     let bits = c in
     let put = bits in
     let w = put in

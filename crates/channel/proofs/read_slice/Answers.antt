@@ -20,4 +20,10 @@ returns-in-At c =
 pub returns-in-Refused : goal.returns-in-Refused
 returns-in-Refused c =
     let read = c in
-    rw (rw read.in-Refused.is at read.read_payload-read.ensures) (record { value = c.refused.ensures; lines_after = refl; factors_after = refl; books_after = refl })
+    rw (rw read.in-Refused.is at read.read_payload-read.ensures) (record {
+      value = c.refused.ensures;
+      lines_after = refl;
+      factors_after =
+          refl;
+      books_after = refl;
+    })

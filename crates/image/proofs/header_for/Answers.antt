@@ -19,7 +19,8 @@ returns-then-header-eq5 c =
 pub pair_at-requires : goal.pair_at-requires
 pair_at-requires c =
     -- past the first test the image is sound
-    let sound : sound_image ((c.args.image.now)) ≡ true = header-not_5 ((c.args.image.now)) (rw c.read_header-header.ensures at c.if-header-eq5.false) in
+    let sound : sound_image ((c.args.image.now)) ≡ true =
+    header-not_5 ((c.args.image.now)) (rw c.read_header-header.ensures at c.if-header-eq5.false) in
     let f = sound_facts ((c.args.image.now)) sound in omega arith
 
 pub overflow_mul-each : goal.overflow_mul-each
@@ -29,7 +30,8 @@ pub returns-then-room-each : goal.returns-then-room-each
 unfolding header_for
 returns-then-room-each c =
     -- past the first test the image is sound
-    let sound : sound_image ((c.args.image.now)) ≡ true = header-not_5 ((c.args.image.now)) (rw c.read_header-header.ensures at c.if-header-eq5.false) in
+    let sound : sound_image ((c.args.image.now)) ≡ true =
+    header-not_5 ((c.args.image.now)) (rw c.read_header-header.ensures at c.if-header-eq5.false) in
     let counted = c in
     rw (sound, lt-leb _ _ (rw counted.pair_at.ensures.0 at c.if-room-each.true))
 
@@ -37,7 +39,8 @@ pub returns : goal.returns
 unfolding header_for
 returns c =
     -- past the first test the image is sound
-    let sound : sound_image ((c.args.image.now)) ≡ true = header-not_5 ((c.args.image.now)) (rw c.read_header-header.ensures at c.if-header-eq5.false) in
+    let sound : sound_image ((c.args.image.now)) ≡ true =
+    header-not_5 ((c.args.image.now)) (rw c.read_header-header.ensures at c.if-header-eq5.false) in
     let counted = c in
     let h = counted.read_header-header.ensures in
     rw (h, sound, le-leb _ _ (rw counted.pair_at.ensures.0 at c.if-room-each.false))

@@ -32,7 +32,9 @@ pub returns-then-not-is_rising : goal.returns-then-not-is_rising
 unfolding sound_image
 returns-then-not-is_rising c =
     -- past the first offset's test, whether the offsets rise and what the last one is decide
-    let others : sound_image ((c.args.image.now)) ≡ (rising ((c.args.image.now)) 0 ((c.pair_at-count.result)) && eqb (offset_of ((c.args.image.now)) ((c.pair_at-count.result))) (length ((c.args.image.now)))) = let s = (c.args.image.now) in
+    let others : sound_image ((c.args.image.now))
+    ≡ (rising ((c.args.image.now)) 0 ((c.pair_at-count.result)) && eqb (offset_of ((c.args.image.now)) ((c.pair_at-count.result)))
+    (length ((c.args.image.now)))) = let s = (c.args.image.now) in
     let first = c.pair_at in
     rw (
       ← c.pair_at-count.ensures.0,
@@ -50,7 +52,9 @@ pub returns : goal.returns
 unfolding sound_image
 returns c =
     -- past the first offset's test, whether the offsets rise and what the last one is decide
-    let others : sound_image ((c.args.image.now)) ≡ (rising ((c.args.image.now)) 0 ((c.pair_at-count.result)) && eqb (offset_of ((c.args.image.now)) ((c.pair_at-count.result))) (length ((c.args.image.now)))) = let s = (c.args.image.now) in
+    let others : sound_image ((c.args.image.now))
+    ≡ (rising ((c.args.image.now)) 0 ((c.pair_at-count.result)) && eqb (offset_of ((c.args.image.now)) ((c.pair_at-count.result)))
+    (length ((c.args.image.now)))) = let s = (c.args.image.now) in
     let first = c.pair_at in
     rw (
       ← c.pair_at-count.ensures.0,

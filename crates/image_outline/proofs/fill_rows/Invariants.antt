@@ -10,7 +10,8 @@ use Rattle.image_outline.proofs.fill_rows.Given as goal
 
 abbrev pub invariant-loop-k : goal.invariant-loop-k
 invariant-loop-k l =
-    (l.k ≤ l.count) × (l.state ≡ state_before l.image l.k) × (length l.rows ≡ length l.initial.rows) × Put l.initial.rows 0 (rows_of l.image l.k) (5 * l.k) l.rows
+    (l.k ≤ l.count) × (l.state ≡ state_before l.image l.k) × (length l.rows ≡ length l.initial.rows)
+    × Put l.initial.rows 0 (rows_of l.image l.k) (5 * l.k) l.rows
 
 abbrev pub decreases-loop-k : goal.decreases-loop-k
 decreases-loop-k l = l.count - l.k

@@ -14,7 +14,8 @@ returns-then-remaining-gt7 c =
     -- what was read of the bytes that were looked at
     let read_is : let r = c.read_payload-read.result in
     let s = c.args.s.now in
-    ended_answer r.ended r.contents ≡ payload (from c.args.state) s 0 (8 * min (length s) 1025) = rw (c.read_from-before.ensures, c.looked_at-end.ensures) at c.read_payload-read.ensures in
+    ended_answer r.ended r.contents ≡ payload (from c.args.state) s 0 (8 * min (length s) 1025) =
+    rw (c.read_from-before.ensures, c.looked_at-end.ensures) at c.read_payload-read.ensures in
     let m = c in
     let e = m in
     let r = e in
@@ -26,7 +27,8 @@ returns-else-remaining-gt7 c =
     -- what was read of the bytes that were looked at
     let read_is : let r = c.read_payload-read.result in
     let s = c.args.s.now in
-    ended_answer r.ended r.contents ≡ payload (from c.args.state) s 0 (8 * min (length s) 1025) = rw (c.read_from-before.ensures, c.looked_at-end.ensures) at c.read_payload-read.ensures in
+    ended_answer r.ended r.contents ≡ payload (from c.args.state) s 0 (8 * min (length s) 1025) =
+    rw (c.read_from-before.ensures, c.looked_at-end.ensures) at c.read_payload-read.ensures in
     let m = c in
     let e = m in
     let r = e in
@@ -38,7 +40,8 @@ returns-in-Refused c =
     -- what was read of the bytes that were looked at
     let read_is : let r = c.read_payload-read.result in
     let s = c.args.s.now in
-    ended_answer r.ended r.contents ≡ payload (from c.args.state) s 0 (8 * min (length s) 1025) = rw (c.read_from-before.ensures, c.looked_at-end.ensures) at c.read_payload-read.ensures in
+    ended_answer r.ended r.contents ≡ payload (from c.args.state) s 0 (8 * min (length s) 1025) =
+    rw (c.read_from-before.ensures, c.looked_at-end.ensures) at c.read_payload-read.ensures in
     let e = c in
     let r = e in
     c.refused_at-in-Refused.ensures ∙ bytes-refused _ _ _ _ (ended_is _ read_is e.in-Refused.is)

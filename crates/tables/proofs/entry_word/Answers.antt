@@ -120,7 +120,8 @@ entry : (words : List ℕ) (t k : ℕ) → words ≡ stereo_words → 12 ≤ t �
 entry words t k p low high h =
     let back : t - 12 + 12 ≡ t = omega arith in
     let g : k < (table_at (t - 12 + 12)).count = rw back h in
-    rw p (subst (λ (x : ℕ). let w = get_or stereo_words (first_word (t - 12) + k) 0 in (piece (w / 32) (w % 32) ∷ [] ≡ spell_word (table_at x) k)
+    rw p (subst (λ (x : ℕ). let w = get_or stereo_words (first_word (t - 12) + k) 0 in
+    (piece (w / 32) (w % 32) ∷ [] ≡ spell_word (table_at x) k)
     × (w % 32 ≤ 20)) back (entry_is (t - 12) (omega arith) k g))
 
 pub returns : goal.returns

@@ -80,7 +80,8 @@ returns-then-bits_at-ne1-3 c =
       passes c.bits_at-4.ensures c.if-bits_at-ne1-2.false,
     ) in
     -- the test of the sampling index
-    let known : known_index (index_in c.args.s.now) ≡ true = sym (ap known_index c.index_in.ensures) ∙ sym c.is_known_index.ensures ∙ c.if-not-is_known_index.false in
+    let known : known_index (index_in c.args.s.now) ≡ true =
+    sym (ap known_index c.index_in.ensures) ∙ sym c.is_known_index.ensures ∙ c.if-not-is_known_index.false in
     let e = early in
     rw (e.0, e.1, e.2, e.3, known, fails c.bits_at-5.ensures c.if-bits_at-ne1-3.true)
 
@@ -96,7 +97,8 @@ returns-then-bits_at-ne0-2 c =
       passes c.bits_at-4.ensures c.if-bits_at-ne1-2.false,
     ) in
     -- the test of the sampling index
-    let known : known_index (index_in c.args.s.now) ≡ true = sym (ap known_index c.index_in.ensures) ∙ sym c.is_known_index.ensures ∙ c.if-not-is_known_index.false in
+    let known : known_index (index_in c.args.s.now) ≡ true =
+    sym (ap known_index c.index_in.ensures) ∙ sym c.is_known_index.ensures ∙ c.if-not-is_known_index.false in
     let channels = c in
     let index = channels in
     let e = early in
@@ -122,7 +124,8 @@ returns c =
       passes c.bits_at-4.ensures c.if-bits_at-ne1-2.false,
     ) in
     -- the test of the sampling index
-    let known : known_index (index_in c.args.s.now) ≡ true = sym (ap known_index c.index_in.ensures) ∙ sym c.is_known_index.ensures ∙ c.if-not-is_known_index.false in
+    let known : known_index (index_in c.args.s.now) ≡ true =
+    sym (ap known_index c.index_in.ensures) ∙ sym c.is_known_index.ensures ∙ c.if-not-is_known_index.false in
     let channels = c in
     let index = channels in
     let e = early in

@@ -23,4 +23,8 @@ returns c =
     let fault = c.header_refusal-number in
     let s = c.args.s.now in
     let e = c.judge_length.ensures in
-    (record { result_value = e.result_value ∙ header-right s c.if-s-lt7.false fault.ensures c.if-number-ne0.false; length_in_bounds = e.length_in_bounds })
+    (record {
+      result_value = e.result_value ∙ header-right s c.if-s-lt7.false fault.ensures c.if-number-ne0.false;
+      length_in_bounds =
+          e.length_in_bounds;
+    })

@@ -7,7 +7,8 @@ use Rattle.adts_files.proofs.window.read_on.Given as goal
 
 abbrev pub invariant-loop-end : goal.invariant-loop-end
 invariant-loop-end g l =
-    (l.first ≤ l.end) × (l.end ≤ length l.buffer) × (length l.buffer ≡ length l.initial.buffer) × (take l.first l.buffer ≡ take l.first l.initial.buffer)
+    (l.first ≤ l.end) × (l.end ≤ length l.buffer) × (length l.buffer ≡ length l.initial.buffer)
+    × (take l.first l.buffer ≡ take l.first l.initial.buffer)
 
 abbrev pub decreases-loop-end : goal.decreases-loop-end
 decreases-loop-end g l = length l.buffer - l.end

@@ -16,7 +16,8 @@ loop-i-init c = (search rules, refl)
 pub compare-requires : goal.compare-requires
 compare-requires c =
     -- a turn's entry is in both tables, and its word is narrow
-    let entry : (c.loop-i.i < length c.args.codes.now) × ((get_or c.args.lens.now c.loop-i.i 0) ≤ 20) = (omega arith, c.requires.1.narrow c.loop-i.i c.loop-i-test.true) in
+    let entry : (c.loop-i.i < length c.args.codes.now) × ((get_or c.args.lens.now c.loop-i.i 0) ≤ 20) =
+    (omega arith, c.requires.1.narrow c.loop-i.i c.loop-i-test.true) in
     (omega arith, entry.1)
 
 pub enum_told-1 : goal.enum_told-1
@@ -30,9 +31,12 @@ overflow_cast-result-in-Fits c =
 pub overflow_add-result : goal.overflow_add-result
 overflow_add-result c =
     -- a turn's entry is in both tables, and its word is narrow
-    let entry : (c.loop-i.i < length c.args.codes.now) × ((get_or c.args.lens.now c.loop-i.i 0) ≤ 20) = (omega arith, c.requires.1.narrow c.loop-i.i c.loop-i-test.true) in
+    let entry : (c.loop-i.i < length c.args.codes.now) × ((get_or c.args.lens.now c.loop-i.i 0) ≤ 20) =
+    (omega arith, c.requires.1.narrow c.loop-i.i c.loop-i-test.true) in
     -- the comparison tells what the turn's word is to the bits up to the end
-    let told : let l = c in let x = l.args in Told c.compare.result x.s.now x.at x.end ((get_or l.args.codes.now l.loop-i.i 0)) ((get_or l.args.lens.now l.loop-i.i 0)) = let w = c.first_bits-w.ensures in
+    let told : let l = c in let x = l.args in
+    Told c.compare.result x.s.now x.at x.end ((get_or l.args.codes.now l.loop-i.i 0)) ((get_or l.args.lens.now l.loop-i.i 0)) =
+    let w = c.first_bits-w.ensures in
     judged _ _ _ _ _ entry.1 w.0 w.1 c.compare.ensures in
     let j = c in
     let l = j in
@@ -44,9 +48,12 @@ overflow_add-result c =
 pub returns-in-Fits : goal.returns-in-Fits
 returns-in-Fits c =
     -- a turn's entry is in both tables, and its word is narrow
-    let entry : (c.loop-i.i < length c.args.codes.now) × ((get_or c.args.lens.now c.loop-i.i 0) ≤ 20) = (omega arith, c.requires.1.narrow c.loop-i.i c.loop-i-test.true) in
+    let entry : (c.loop-i.i < length c.args.codes.now) × ((get_or c.args.lens.now c.loop-i.i 0) ≤ 20) =
+    (omega arith, c.requires.1.narrow c.loop-i.i c.loop-i-test.true) in
     -- the comparison tells what the turn's word is to the bits up to the end
-    let told : let l = c in let x = l.args in Told c.compare.result x.s.now x.at x.end ((get_or l.args.codes.now l.loop-i.i 0)) ((get_or l.args.lens.now l.loop-i.i 0)) = let w = c.first_bits-w.ensures in
+    let told : let l = c in let x = l.args in
+    Told c.compare.result x.s.now x.at x.end ((get_or l.args.codes.now l.loop-i.i 0)) ((get_or l.args.lens.now l.loop-i.i 0)) =
+    let w = c.first_bits-w.ensures in
     judged _ _ _ _ _ entry.1 w.0 w.1 c.compare.ensures in
     let j = c in
     (turn-found _ _ _ _ _ _ _ entry.0 j.loop-i-test.true told c.in-Fits.is).0
@@ -55,9 +62,12 @@ returns-in-Fits c =
 pub loop-i-preserved : goal.loop-i-preserved
 loop-i-preserved c =
     -- a turn's entry is in both tables, and its word is narrow
-    let entry : (c.loop-i.i < length c.args.codes.now) × ((get_or c.args.lens.now c.loop-i.i 0) ≤ 20) = (omega arith, c.requires.1.narrow c.loop-i.i c.loop-i-test.true) in
+    let entry : (c.loop-i.i < length c.args.codes.now) × ((get_or c.args.lens.now c.loop-i.i 0) ≤ 20) =
+    (omega arith, c.requires.1.narrow c.loop-i.i c.loop-i-test.true) in
     -- the comparison tells what the turn's word is to the bits up to the end
-    let told : let l = c in let x = l.args in Told c.compare.result x.s.now x.at x.end ((get_or l.args.codes.now l.loop-i.i 0)) ((get_or l.args.lens.now l.loop-i.i 0)) = let w = c.first_bits-w.ensures in
+    let told : let l = c in let x = l.args in
+    Told c.compare.result x.s.now x.at x.end ((get_or l.args.codes.now l.loop-i.i 0)) ((get_or l.args.lens.now l.loop-i.i 0)) =
+    let w = c.first_bits-w.ensures in
     judged _ _ _ _ _ entry.1 w.0 w.1 c.compare.ensures in
     let j = c in
     let e = j.loop-i.invariant.1 in

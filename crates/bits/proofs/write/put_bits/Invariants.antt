@@ -7,7 +7,8 @@ use Rattle.bits.proofs.write.put_bits.Given as goal
 
 abbrev pub invariant-loop-left : goal.invariant-loop-left
 invariant-loop-left l =
-    (l.place + l.left ≡ l.at + l.n) × (l.left ≤ l.n) × (length l.out ≡ length l.initial.out) × (put l.out l.place l.v l.left ≡ put l.initial.out l.at l.v l.n)
+    (l.place + l.left ≡ l.at + l.n) × (l.left ≤ l.n) × (length l.out ≡ length l.initial.out)
+    × (put l.out l.place l.v l.left ≡ put l.initial.out l.at l.v l.n)
 
 abbrev pub decreases-loop-left : goal.decreases-loop-left
 decreases-loop-left l = l.left

@@ -23,7 +23,8 @@ overflow_cast-result-then-x-lt0 c =
     -- the test and the cast read the index as it is
     let whole : to_z w8 (of_z w8 c.args.x) ≡ c.args.x = to_z-of_z w8 _ c.ranges.x in
     -- the byte of one below 0, and of any other
-    let below : let x = c.args.x in to_z w16 (of_z w16 (to_z w16 (of_z w16 (to_z w8 (of_z w8 x))) +ℤ pos 256)) ≡ pos (of_z w8 x) = raised _ c.ranges.x (rw whole at c.if-x-lt0.true) in
+    let below : let x = c.args.x in to_z w16 (of_z w16 (to_z w16 (of_z w16 (to_z w8 (of_z w8 x))) +ℤ pos 256)) ≡ pos (of_z w8 x) =
+    raised _ c.ranges.x (rw whole at c.if-x-lt0.true) in
     rw below (tt, of_z_fits w8 c.args.x c.ranges.x)
 
 pub overflow_cast-result-else-x-lt0 : goal.overflow_cast-result-else-x-lt0
@@ -38,7 +39,8 @@ returns-then-x-lt0 c =
     -- the test and the cast read the index as it is
     let whole : to_z w8 (of_z w8 c.args.x) ≡ c.args.x = to_z-of_z w8 _ c.ranges.x in
     -- the byte of one below 0, and of any other
-    let below : let x = c.args.x in to_z w16 (of_z w16 (to_z w16 (of_z w16 (to_z w8 (of_z w8 x))) +ℤ pos 256)) ≡ pos (of_z w8 x) = raised _ c.ranges.x (rw whole at c.if-x-lt0.true) in
+    let below : let x = c.args.x in to_z w16 (of_z w16 (to_z w16 (of_z w16 (to_z w8 (of_z w8 x))) +ℤ pos 256)) ≡ pos (of_z w8 x) =
+    raised _ c.ranges.x (rw whole at c.if-x-lt0.true) in
     rw below
 
 pub returns-else-x-lt0 : goal.returns-else-x-lt0

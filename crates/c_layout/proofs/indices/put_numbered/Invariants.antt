@@ -11,7 +11,8 @@ use Rattle.c_layout.proofs.indices.put_numbered.Given as goal
 
 abbrev pub invariant-loop-i : goal.invariant-loop-i
 invariant-loop-i l =
-    (l.i ≤ 34) × (l.at + 35 ≤ length l.initial.out) × (length l.out ≡ length l.initial.out) × (l.out ≡ paste l.initial.out (l.at + 1) (map (of_z w8) l.indices) l.i)
+    (l.i ≤ 34) × (l.at + 35 ≤ length l.initial.out) × (length l.out ≡ length l.initial.out)
+    × (l.out ≡ paste l.initial.out (l.at + 1) (map (of_z w8) l.indices) l.i)
 
 abbrev pub decreases-loop-i : goal.decreases-loop-i
 decreases-loop-i l = 34 - l.i

@@ -12,8 +12,11 @@ pub returns-then-grouping-from-ne1 : goal.returns-then-grouping-from-ne1
 returns-then-grouping-from-ne1 c =
     let l = c.loop-n in
     let x = c.args in
-    let q : 7 - (x.from + l.n) ≡ 8 - (x.from + l.n) - 1 = omega arith in
-    (l.invariant.2 ∙ group-stop (8 - (x.from + l.n)) x.grouping l.n (omega arith) (rw q at c.if-grouping-from-ne1.true), omega arith, omega arith)
+    let q : 7 - (x.from + l.n) ≡ 8 - (x.from + l.n) - 1 = omega arith in (
+      l.invariant.2 ∙ group-stop (8 - (x.from + l.n)) x.grouping l.n (omega arith) (rw q at c.if-grouping-from-ne1.true),
+      omega arith,
+      omega arith,
+    )
 
 pub loop-n-preserved : goal.loop-n-preserved
 loop-n-preserved c =

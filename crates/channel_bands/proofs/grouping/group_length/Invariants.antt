@@ -5,7 +5,8 @@ use Rattle.channel_bands.specs.Grouping.{groups_from, groups_after}
 use Rattle.channel_bands.proofs.grouping.group_length.Given as goal
 
 abbrev pub invariant-loop-n : goal.invariant-loop-n
-invariant-loop-n l = (1 ≤ l.n) × (l.from + l.n ≤ 8) × (groups_after (8 - l.from) l.grouping ≡ groups_from (8 - (l.from + l.n)) l.grouping l.n)
+invariant-loop-n l =
+    (1 ≤ l.n) × (l.from + l.n ≤ 8) × (groups_after (8 - l.from) l.grouping ≡ groups_from (8 - (l.from + l.n)) l.grouping l.n)
 
 abbrev pub decreases-loop-n : goal.decreases-loop-n
 decreases-loop-n l = 8 - l.n

@@ -7,7 +7,8 @@ use Rattle.channel_side.proofs.factors.read_factors.Given as goal
 
 abbrev pub invariant-loop-i : goal.invariant-loop-i
 invariant-loop-i l =
-    (l.i ≤ l.n) × (l.last ≤ 255) × (first_factors l.n l.gain l.books l.initial.factors l.s l.at l.end ≡ rest l.i l.n l.last l.books l.factors l.s l.place l.end)
+    (l.i ≤ l.n) × (l.last ≤ 255)
+    × (first_factors l.n l.gain l.books l.initial.factors l.s l.at l.end ≡ rest l.i l.n l.last l.books l.factors l.s l.place l.end)
 
 abbrev pub decreases-loop-i : goal.decreases-loop-i
 decreases-loop-i l = l.n - l.i

@@ -28,7 +28,10 @@ returns-in_default-start_field c =
     let none = c.no_pulses-in_default-start_field.ensures in
     let at-start = c in
     let n = at-start in (
-      passed _ (none.0 ∙ c.passed_on-in_default-start_field.ensures) told ∙ rw (count, answered at-start.read_start-start_field.ensures told),
+      passed _ (none.0 ∙ c.passed_on-in_default-start_field.ensures) told ∙ rw (
+        count,
+        answered at-start.read_start-start_field.ensures told,
+      ),
       none-applicable none.1,
     )
 
@@ -36,7 +39,8 @@ pub bounds-edges-start : goal.bounds-edges-start
 bounds-edges-start c =
     -- the start band
     let start : start_band c.args.index c.args.s.now c.in-Got.after_count
-    c.args.end ≡ got c.in-Got-start_field.start c.in-Got-start_field.after_start = answered c.read_start-start_field.ensures c.in-Got-start_field.is in
+    c.args.end ≡ got c.in-Got-start_field.start c.in-Got-start_field.after_start =
+    answered c.read_start-start_field.ensures c.in-Got-start_field.is in
     -- its first line lies in the window
     let line : (c.in-Got-start_field.start < length c.args.edges.now)
     × (get_or c.args.edges.now c.in-Got-start_field.start 0 ≤ 1024) = rw c.requires.1 (start-line _ _ _ _ _ _ start) in
@@ -46,7 +50,8 @@ pub overflow_cast-line-2 : goal.overflow_cast-line-2
 overflow_cast-line-2 c =
     -- the start band
     let start : start_band c.args.index c.args.s.now c.in-Got.after_count
-    c.args.end ≡ got c.in-Got-start_field.start c.in-Got-start_field.after_start = answered c.read_start-start_field.ensures c.in-Got-start_field.is in
+    c.args.end ≡ got c.in-Got-start_field.start c.in-Got-start_field.after_start =
+    answered c.read_start-start_field.ensures c.in-Got-start_field.is in
     -- its first line lies in the window
     let line : (c.in-Got-start_field.start < length c.args.edges.now)
     × (get_or c.args.edges.now c.in-Got-start_field.start 0 ≤ 1024) = rw c.requires.1 (start-line _ _ _ _ _ _ start) in
@@ -66,7 +71,8 @@ read_each-requires c =
     ≡ got c.in-Got.less c.in-Got.after_count = answered c.read_field-count_field.ensures c.in-Got.is in
     -- the start band
     let start : start_band c.args.index c.args.s.now c.in-Got.after_count
-    c.args.end ≡ got c.in-Got-start_field.start c.in-Got-start_field.after_start = answered c.read_start-start_field.ensures c.in-Got-start_field.is in
+    c.args.end ≡ got c.in-Got-start_field.start c.in-Got-start_field.after_start =
+    answered c.read_start-start_field.ensures c.in-Got-start_field.is in
     -- its first line lies in the window
     let line : (c.in-Got-start_field.start < length c.args.edges.now)
     × (get_or c.args.edges.now c.in-Got-start_field.start 0 ≤ 1024) = rw c.requires.1 (start-line _ _ _ _ _ _ start) in
@@ -82,7 +88,8 @@ returns c =
     ≡ got c.in-Got.less c.in-Got.after_count = answered c.read_field-count_field.ensures c.in-Got.is in
     -- the start band
     let start : start_band c.args.index c.args.s.now c.in-Got.after_count
-    c.args.end ≡ got c.in-Got-start_field.start c.in-Got-start_field.after_start = answered c.read_start-start_field.ensures c.in-Got-start_field.is in
+    c.args.end ≡ got c.in-Got-start_field.start c.in-Got-start_field.after_start =
+    answered c.read_start-start_field.ensures c.in-Got-start_field.is in
     let begun = c in
     let n = begun in
     let r = c.read_each.ensures in

@@ -7,7 +7,9 @@ use Rattle.channel_side.proofs.sections.read_group.Given as goal
 
 abbrev pub invariant-loop-count : goal.invariant-loop-count
 invariant-loop-count l =
-    (l.count ≤ l.max_sfb) × (group_sections l.width l.max_sfb l.base l.initial.books l.s l.at l.end ≡ sections_from l.width l.max_sfb l.base l.count l.books l.s l.place l.end)
+    (l.count ≤ l.max_sfb)
+    × (group_sections l.width l.max_sfb l.base l.initial.books l.s l.at l.end
+    ≡ sections_from l.width l.max_sfb l.base l.count l.books l.s l.place l.end)
 
 abbrev pub decreases-loop-count : goal.decreases-loop-count
 decreases-loop-count l = l.max_sfb - l.count

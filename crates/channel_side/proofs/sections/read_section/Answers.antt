@@ -26,7 +26,8 @@ returns-in_default-length_field c =
 pub overflow_cast-bands : goal.overflow_cast-bands
 overflow_cast-bands c =
     -- the length has room
-    let bounds : Fits (c.args.max_sfb - c.args.count) (Got c.in-Got-length_field.bands c.in-Got-length_field.after_length) = rw c.in-Got-length_field.is at c.read_length-length_field.ensures.1 in
+    let bounds : Fits (c.args.max_sfb - c.args.count) (Got c.in-Got-length_field.bands c.in-Got-length_field.after_length) =
+    rw c.in-Got-length_field.is at c.read_length-length_field.ensures.1 in
     omega (arith, bounds)
 
 pub overflow_cast-book : goal.overflow_cast-book
@@ -37,20 +38,23 @@ overflow_cast-book c =
 pub fill_books-requires : goal.fill_books-requires
 fill_books-requires c =
     -- the length has room
-    let bounds : Fits (c.args.max_sfb - c.args.count) (Got c.in-Got-length_field.bands c.in-Got-length_field.after_length) = rw c.in-Got-length_field.is at c.read_length-length_field.ensures.1 in
+    let bounds : Fits (c.args.max_sfb - c.args.count) (Got c.in-Got-length_field.bands c.in-Got-length_field.after_length) =
+    rw c.in-Got-length_field.is at c.read_length-length_field.ensures.1 in
     omega (arith, bounds)
 
 pub overflow_add-result : goal.overflow_add-result
 overflow_add-result c =
     -- the length has room
-    let bounds : Fits (c.args.max_sfb - c.args.count) (Got c.in-Got-length_field.bands c.in-Got-length_field.after_length) = rw c.in-Got-length_field.is at c.read_length-length_field.ensures.1 in
+    let bounds : Fits (c.args.max_sfb - c.args.count) (Got c.in-Got-length_field.bands c.in-Got-length_field.after_length) =
+    rw c.in-Got-length_field.is at c.read_length-length_field.ensures.1 in
     omega (arith, bounds)
 
 pub returns : goal.returns
 unfolding section
 returns c =
     -- the length has room
-    let bounds : Fits (c.args.max_sfb - c.args.count) (Got c.in-Got-length_field.bands c.in-Got-length_field.after_length) = rw c.in-Got-length_field.is at c.read_length-length_field.ensures.1 in
+    let bounds : Fits (c.args.max_sfb - c.args.count) (Got c.in-Got-length_field.bands c.in-Got-length_field.after_length) =
+    rw c.in-Got-length_field.is at c.read_length-length_field.ensures.1 in
     let length = c in
     let book = length in
     let e = answered book.read_book-book_field.ensures book.in-Got.is in

@@ -20,7 +20,8 @@ unfolding window
 returns-in_default-shape_field c =
     -- the sequence is read, then the shape
     let sequence : let a = c.args in
-    window_sequence a.s.now a.at a.end ≡ got c.in-Got.sequence c.in-Got.after_sequence = answered c.read_sequence-sequence_field.ensures c.in-Got.is in
+    window_sequence a.s.now a.at a.end ≡ got c.in-Got.sequence c.in-Got.after_sequence =
+    answered c.read_sequence-sequence_field.ensures c.in-Got.is in
     let told = c.in_default-shape_field.is in
     let none = c.refused_window-in_default-shape_field.ensures in
     let at-shape = c in (
@@ -32,7 +33,8 @@ pub read_window_bands-requires : goal.read_window_bands-requires
 read_window_bands-requires c =
     -- the sequence is read, then the shape
     let sequence : let a = c.args in
-    window_sequence a.s.now a.at a.end ≡ got c.in-Got.sequence c.in-Got.after_sequence = answered c.read_sequence-sequence_field.ensures c.in-Got.is in
+    window_sequence a.s.now a.at a.end ≡ got c.in-Got.sequence c.in-Got.after_sequence =
+    answered c.read_sequence-sequence_field.ensures c.in-Got.is in
     let shape : let a = c.args in
     field 1 a.s.now c.in-Got.after_sequence a.end
     ≡ got c.in-Got-shape_field.shape c.in-Got-shape_field.after_shape = answered c.read_field-shape_field.ensures c.in-Got-shape_field.is in
@@ -44,7 +46,8 @@ unfolding window
 returns c =
     -- the sequence is read, then the shape
     let sequence : let a = c.args in
-    window_sequence a.s.now a.at a.end ≡ got c.in-Got.sequence c.in-Got.after_sequence = answered c.read_sequence-sequence_field.ensures c.in-Got.is in
+    window_sequence a.s.now a.at a.end ≡ got c.in-Got.sequence c.in-Got.after_sequence =
+    answered c.read_sequence-sequence_field.ensures c.in-Got.is in
     let shape : let a = c.args in
     field 1 a.s.now c.in-Got.after_sequence a.end
     ≡ got c.in-Got-shape_field.shape c.in-Got-shape_field.after_shape = answered c.read_field-shape_field.ensures c.in-Got-shape_field.is in

@@ -31,7 +31,8 @@ overflow_mul-second c =
     -- and lies before the end
     let inside : let a = c.args in
     let next = c.in-Got.next in
-    (a.at ≤ next) × (next ≤ a.end) × (next ≤ a.at + 20) × (c.in-Got.entry < a.base * a.base) = let a = c in a.requires.1.inside a.args.s.now a.args.at a.args.end _ _ word-is in
+    (a.at ≤ next) × (next ≤ a.end) × (next ≤ a.at + 20) × (c.in-Got.entry < a.base * a.base) = let a = c in
+    a.requires.1.inside a.args.s.now a.args.at a.args.end _ _ word-is in
     -- its digits
     let digits : Digits c.args.base c.in-Got.entry = pair_digits _ _ c.requires.2 inside.3 in
     let d = digits in rw c.first_number-first.ensures (omega arith)
@@ -46,7 +47,8 @@ overflow_sub-second c =
     -- and lies before the end
     let inside : let a = c.args in
     let next = c.in-Got.next in
-    (a.at ≤ next) × (next ≤ a.end) × (next ≤ a.at + 20) × (c.in-Got.entry < a.base * a.base) = let a = c in a.requires.1.inside a.args.s.now a.args.at a.args.end _ _ word-is in
+    (a.at ≤ next) × (next ≤ a.end) × (next ≤ a.at + 20) × (c.in-Got.entry < a.base * a.base) = let a = c in
+    a.requires.1.inside a.args.s.now a.args.at a.args.end _ _ word-is in
     -- its digits
     let digits : Digits c.args.base c.in-Got.entry = pair_digits _ _ c.requires.2 inside.3 in
     rw c.first_number-first.ensures digits.4
@@ -61,7 +63,8 @@ overflow_sub-signs c =
     -- and lies before the end
     let inside : let a = c.args in
     let next = c.in-Got.next in
-    (a.at ≤ next) × (next ≤ a.end) × (next ≤ a.at + 20) × (c.in-Got.entry < a.base * a.base) = let a = c in a.requires.1.inside a.args.s.now a.args.at a.args.end _ _ word-is in
+    (a.at ≤ next) × (next ≤ a.end) × (next ≤ a.at + 20) × (c.in-Got.entry < a.base * a.base) = let a = c in
+    a.requires.1.inside a.args.s.now a.args.at a.args.end _ _ word-is in
     inside.0
 
 pub overflow_add-after_first : goal.overflow_add-after_first
@@ -74,7 +77,8 @@ overflow_add-after_first c =
     -- and lies before the end
     let inside : let a = c.args in
     let next = c.in-Got.next in
-    (a.at ≤ next) × (next ≤ a.end) × (next ≤ a.at + 20) × (c.in-Got.entry < a.base * a.base) = let a = c in a.requires.1.inside a.args.s.now a.args.at a.args.end _ _ word-is in
+    (a.at ≤ next) × (next ≤ a.end) × (next ≤ a.at + 20) × (c.in-Got.entry < a.base * a.base) = let a = c in
+    a.requires.1.inside a.args.s.now a.args.at a.args.end _ _ word-is in
     let i = inside in omega arith
 
 pub overflow_add-size : goal.overflow_add-size
@@ -87,7 +91,8 @@ overflow_add-size c =
     -- and lies before the end
     let inside : let a = c.args in
     let next = c.in-Got.next in
-    (a.at ≤ next) × (next ≤ a.end) × (next ≤ a.at + 20) × (c.in-Got.entry < a.base * a.base) = let a = c in a.requires.1.inside a.args.s.now a.args.at a.args.end _ _ word-is in
+    (a.at ≤ next) × (next ≤ a.end) × (next ≤ a.at + 20) × (c.in-Got.entry < a.base * a.base) = let a = c in
+    a.requires.1.inside a.args.s.now a.args.at a.args.end _ _ word-is in
     let i = inside in omega arith
 
 pub overflow_sub-end : goal.overflow_sub-end
@@ -100,7 +105,8 @@ overflow_sub-end c =
     -- and lies before the end
     let inside : let a = c.args in
     let next = c.in-Got.next in
-    (a.at ≤ next) × (next ≤ a.end) × (next ≤ a.at + 20) × (c.in-Got.entry < a.base * a.base) = let a = c in a.requires.1.inside a.args.s.now a.args.at a.args.end _ _ word-is in
+    (a.at ≤ next) × (next ≤ a.end) × (next ≤ a.at + 20) × (c.in-Got.entry < a.base * a.base) = let a = c in
+    a.requires.1.inside a.args.s.now a.args.at a.args.end _ _ word-is in
     let i = inside in omega arith
 
 pub returns-then-end-at : goal.returns-then-end-at
@@ -113,7 +119,8 @@ returns-then-end-at c =
     -- and lies before the end
     let inside : let a = c.args in
     let next = c.in-Got.next in
-    (a.at ≤ next) × (next ≤ a.end) × (next ≤ a.at + 20) × (c.in-Got.entry < a.base * a.base) = let a = c in a.requires.1.inside a.args.s.now a.args.at a.args.end _ _ word-is in
+    (a.at ≤ next) × (next ≤ a.end) × (next ≤ a.at + 20) × (c.in-Got.entry < a.base * a.base) = let a = c in
+    a.requires.1.inside a.args.s.now a.args.at a.args.end _ _ word-is in
     -- its digits
     let digits : Digits c.args.base c.in-Got.entry = pair_digits _ _ c.requires.2 inside.3 in
     -- what the code makes of the digits
@@ -145,7 +152,8 @@ bit_of-requires c =
     -- and lies before the end
     let inside : let a = c.args in
     let next = c.in-Got.next in
-    (a.at ≤ next) × (next ≤ a.end) × (next ≤ a.at + 20) × (c.in-Got.entry < a.base * a.base) = let a = c in a.requires.1.inside a.args.s.now a.args.at a.args.end _ _ word-is in
+    (a.at ≤ next) × (next ≤ a.end) × (next ≤ a.at + 20) × (c.in-Got.entry < a.base * a.base) = let a = c in
+    a.requires.1.inside a.args.s.now a.args.at a.args.end _ _ word-is in
     let i = inside in omega arith
 
 pub bit_of-requires-in-Got : goal.bit_of-requires-in-Got
@@ -158,7 +166,8 @@ bit_of-requires-in-Got c =
     -- and lies before the end
     let inside : let a = c.args in
     let next = c.in-Got.next in
-    (a.at ≤ next) × (next ≤ a.end) × (next ≤ a.at + 20) × (c.in-Got.entry < a.base * a.base) = let a = c in a.requires.1.inside a.args.s.now a.args.at a.args.end _ _ word-is in
+    (a.at ≤ next) × (next ≤ a.end) × (next ≤ a.at + 20) × (c.in-Got.entry < a.base * a.base) = let a = c in
+    a.requires.1.inside a.args.s.now a.args.at a.args.end _ _ word-is in
     let i = inside in omega arith
 
 pub overflow_add-ended : goal.overflow_add-ended
@@ -171,7 +180,8 @@ overflow_add-ended c =
     -- and lies before the end
     let inside : let a = c.args in
     let next = c.in-Got.next in
-    (a.at ≤ next) × (next ≤ a.end) × (next ≤ a.at + 20) × (c.in-Got.entry < a.base * a.base) = let a = c in a.requires.1.inside a.args.s.now a.args.at a.args.end _ _ word-is in
+    (a.at ≤ next) × (next ≤ a.end) × (next ≤ a.at + 20) × (c.in-Got.entry < a.base * a.base) = let a = c in
+    a.requires.1.inside a.args.s.now a.args.at a.args.end _ _ word-is in
     omega (arith, inside, c.if-end-at.false)
 
 pub returns-else-end-at : goal.returns-else-end-at
@@ -184,7 +194,8 @@ returns-else-end-at c =
     -- and lies before the end
     let inside : let a = c.args in
     let next = c.in-Got.next in
-    (a.at ≤ next) × (next ≤ a.end) × (next ≤ a.at + 20) × (c.in-Got.entry < a.base * a.base) = let a = c in a.requires.1.inside a.args.s.now a.args.at a.args.end _ _ word-is in
+    (a.at ≤ next) × (next ≤ a.end) × (next ≤ a.at + 20) × (c.in-Got.entry < a.base * a.base) = let a = c in
+    a.requires.1.inside a.args.s.now a.args.at a.args.end _ _ word-is in
     -- its digits
     let digits : Digits c.args.base c.in-Got.entry = pair_digits _ _ c.requires.2 inside.3 in
     -- what the code makes of the digits

@@ -40,7 +40,8 @@ overflow_sub-first c =
     -- and lies before the end
     let inside : let a = c.args in
     let next = c.in-Got.next in
-    (a.at ≤ next) × (next ≤ a.end) × (next ≤ a.at + 20) × (c.in-Got.entry < 81) = let a = c in a.requires.1.inside a.args.s.now a.args.at a.args.end _ _ word-is in
+    (a.at ≤ next) × (next ≤ a.end) × (next ≤ a.at + 20) × (c.in-Got.entry < 81) = let a = c in
+    a.requires.1.inside a.args.s.now a.args.at a.args.end _ _ word-is in
     inside.0
 
 pub overflow_add-second : goal.overflow_add-second
@@ -53,7 +54,8 @@ overflow_add-second c =
     -- and lies before the end
     let inside : let a = c.args in
     let next = c.in-Got.next in
-    (a.at ≤ next) × (next ≤ a.end) × (next ≤ a.at + 20) × (c.in-Got.entry < 81) = let a = c in a.requires.1.inside a.args.s.now a.args.at a.args.end _ _ word-is in
+    (a.at ≤ next) × (next ≤ a.end) × (next ≤ a.at + 20) × (c.in-Got.entry < 81) = let a = c in
+    a.requires.1.inside a.args.s.now a.args.at a.args.end _ _ word-is in
     let i = inside in omega arith
 
 pub overflow_add-third : goal.overflow_add-third
@@ -66,7 +68,8 @@ overflow_add-third c =
     -- and lies before the end
     let inside : let a = c.args in
     let next = c.in-Got.next in
-    (a.at ≤ next) × (next ≤ a.end) × (next ≤ a.at + 20) × (c.in-Got.entry < 81) = let a = c in a.requires.1.inside a.args.s.now a.args.at a.args.end _ _ word-is in
+    (a.at ≤ next) × (next ≤ a.end) × (next ≤ a.at + 20) × (c.in-Got.entry < 81) = let a = c in
+    a.requires.1.inside a.args.s.now a.args.at a.args.end _ _ word-is in
     let i = inside in omega arith
 
 pub overflow_add-fourth : goal.overflow_add-fourth
@@ -79,7 +82,8 @@ overflow_add-fourth c =
     -- and lies before the end
     let inside : let a = c.args in
     let next = c.in-Got.next in
-    (a.at ≤ next) × (next ≤ a.end) × (next ≤ a.at + 20) × (c.in-Got.entry < 81) = let a = c in a.requires.1.inside a.args.s.now a.args.at a.args.end _ _ word-is in
+    (a.at ≤ next) × (next ≤ a.end) × (next ≤ a.at + 20) × (c.in-Got.entry < 81) = let a = c in
+    a.requires.1.inside a.args.s.now a.args.at a.args.end _ _ word-is in
     let i = inside in omega arith
 
 pub overflow_add-size : goal.overflow_add-size
@@ -92,7 +96,8 @@ overflow_add-size c =
     -- and lies before the end
     let inside : let a = c.args in
     let next = c.in-Got.next in
-    (a.at ≤ next) × (next ≤ a.end) × (next ≤ a.at + 20) × (c.in-Got.entry < 81) = let a = c in a.requires.1.inside a.args.s.now a.args.at a.args.end _ _ word-is in
+    (a.at ≤ next) × (next ≤ a.end) × (next ≤ a.at + 20) × (c.in-Got.entry < 81) = let a = c in
+    a.requires.1.inside a.args.s.now a.args.at a.args.end _ _ word-is in
     let i = inside in omega arith
 
 pub overflow_sub-end : goal.overflow_sub-end
@@ -105,7 +110,8 @@ overflow_sub-end c =
     -- and lies before the end
     let inside : let a = c.args in
     let next = c.in-Got.next in
-    (a.at ≤ next) × (next ≤ a.end) × (next ≤ a.at + 20) × (c.in-Got.entry < 81) = let a = c in a.requires.1.inside a.args.s.now a.args.at a.args.end _ _ word-is in
+    (a.at ≤ next) × (next ≤ a.end) × (next ≤ a.at + 20) × (c.in-Got.entry < 81) = let a = c in
+    a.requires.1.inside a.args.s.now a.args.at a.args.end _ _ word-is in
     let i = inside in omega arith
 
 pub returns-then-end-at : goal.returns-then-end-at
@@ -118,7 +124,8 @@ returns-then-end-at c =
     -- and lies before the end
     let inside : let a = c.args in
     let next = c.in-Got.next in
-    (a.at ≤ next) × (next ≤ a.end) × (next ≤ a.at + 20) × (c.in-Got.entry < 81) = let a = c in a.requires.1.inside a.args.s.now a.args.at a.args.end _ _ word-is in
+    (a.at ≤ next) × (next ≤ a.end) × (next ≤ a.at + 20) × (c.in-Got.entry < 81) = let a = c in
+    a.requires.1.inside a.args.s.now a.args.at a.args.end _ _ word-is in
     let fourth = c in
     let third = fourth in
     let second = third in
@@ -145,7 +152,8 @@ overflow_add-after c =
     -- and lies before the end
     let inside : let a = c.args in
     let next = c.in-Got.next in
-    (a.at ≤ next) × (next ≤ a.end) × (next ≤ a.at + 20) × (c.in-Got.entry < 81) = let a = c in a.requires.1.inside a.args.s.now a.args.at a.args.end _ _ word-is in
+    (a.at ≤ next) × (next ≤ a.end) × (next ≤ a.at + 20) × (c.in-Got.entry < 81) = let a = c in
+    a.requires.1.inside a.args.s.now a.args.at a.args.end _ _ word-is in
     omega (arith, inside, c.if-end-at.false)
 
 pub bit_of-requires : goal.bit_of-requires
@@ -158,7 +166,8 @@ bit_of-requires c =
     -- and lies before the end
     let inside : let a = c.args in
     let next = c.in-Got.next in
-    (a.at ≤ next) × (next ≤ a.end) × (next ≤ a.at + 20) × (c.in-Got.entry < 81) = let a = c in a.requires.1.inside a.args.s.now a.args.at a.args.end _ _ word-is in
+    (a.at ≤ next) × (next ≤ a.end) × (next ≤ a.at + 20) × (c.in-Got.entry < 81) = let a = c in
+    a.requires.1.inside a.args.s.now a.args.at a.args.end _ _ word-is in
     let i = inside in omega arith
 
 pub bit_of-requires-2 : goal.bit_of-requires-2
@@ -171,7 +180,8 @@ bit_of-requires-2 c =
     -- and lies before the end
     let inside : let a = c.args in
     let next = c.in-Got.next in
-    (a.at ≤ next) × (next ≤ a.end) × (next ≤ a.at + 20) × (c.in-Got.entry < 81) = let a = c in a.requires.1.inside a.args.s.now a.args.at a.args.end _ _ word-is in
+    (a.at ≤ next) × (next ≤ a.end) × (next ≤ a.at + 20) × (c.in-Got.entry < 81) = let a = c in
+    a.requires.1.inside a.args.s.now a.args.at a.args.end _ _ word-is in
     let i = inside in omega arith
 
 pub bit_of-requires-3 : goal.bit_of-requires-3
@@ -184,7 +194,8 @@ bit_of-requires-3 c =
     -- and lies before the end
     let inside : let a = c.args in
     let next = c.in-Got.next in
-    (a.at ≤ next) × (next ≤ a.end) × (next ≤ a.at + 20) × (c.in-Got.entry < 81) = let a = c in a.requires.1.inside a.args.s.now a.args.at a.args.end _ _ word-is in
+    (a.at ≤ next) × (next ≤ a.end) × (next ≤ a.at + 20) × (c.in-Got.entry < 81) = let a = c in
+    a.requires.1.inside a.args.s.now a.args.at a.args.end _ _ word-is in
     let i = inside in omega arith
 
 pub bit_of-requires-4 : goal.bit_of-requires-4
@@ -197,7 +208,8 @@ bit_of-requires-4 c =
     -- and lies before the end
     let inside : let a = c.args in
     let next = c.in-Got.next in
-    (a.at ≤ next) × (next ≤ a.end) × (next ≤ a.at + 20) × (c.in-Got.entry < 81) = let a = c in a.requires.1.inside a.args.s.now a.args.at a.args.end _ _ word-is in
+    (a.at ≤ next) × (next ≤ a.end) × (next ≤ a.at + 20) × (c.in-Got.entry < 81) = let a = c in
+    a.requires.1.inside a.args.s.now a.args.at a.args.end _ _ word-is in
     let i = inside in omega arith
 
 pub returns : goal.returns
@@ -210,7 +222,8 @@ returns c =
     -- and lies before the end
     let inside : let a = c.args in
     let next = c.in-Got.next in
-    (a.at ≤ next) × (next ≤ a.end) × (next ≤ a.at + 20) × (c.in-Got.entry < 81) = let a = c in a.requires.1.inside a.args.s.now a.args.at a.args.end _ _ word-is in
+    (a.at ≤ next) × (next ≤ a.end) × (next ≤ a.at + 20) × (c.in-Got.entry < 81) = let a = c in
+    a.requires.1.inside a.args.s.now a.args.at a.args.end _ _ word-is in
     let third = c in
     let second = third in
     let first = second in

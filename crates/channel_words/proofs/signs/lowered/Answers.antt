@@ -12,12 +12,14 @@ use Rattle.channel_words.proofs.signs.lowered.Goals as goal
 pub overflow_sub-result : goal.overflow_sub-result
 overflow_sub-result c =
     let number : to_z w16 c.args.d ≡ pos c.args.d = let h : c.args.d < 2 ^ 15 = omega arith in to_z_pos w16 c.args.d h in
-    let offset : to_z w16 c.args.offset ≡ pos c.args.offset = let h : c.args.offset < 2 ^ 15 = omega arith in to_z_pos w16 c.args.offset h in
+    let offset : to_z w16 c.args.offset ≡ pos c.args.offset = let h : c.args.offset < 2 ^ 15 = omega arith in
+    to_z_pos w16 c.args.offset h in
     rw (number, offset)
     (fits 20 (abs_add (pos c.args.d) (neg_ℤ (pos c.args.offset)) 16 4 c.requires.0 (rw abs_neg c.requires.1)) (omega arith))
 
 pub returns : goal.returns
 returns c =
     let number : to_z w16 c.args.d ≡ pos c.args.d = let h : c.args.d < 2 ^ 15 = omega arith in to_z_pos w16 c.args.d h in
-    let offset : to_z w16 c.args.offset ≡ pos c.args.offset = let h : c.args.offset < 2 ^ 15 = omega arith in to_z_pos w16 c.args.offset h in
+    let offset : to_z w16 c.args.offset ≡ pos c.args.offset = let h : c.args.offset < 2 ^ 15 = omega arith in
+    to_z_pos w16 c.args.offset h in
     to_z-of_z w16 _ (overflow_sub-result c) ∙ rw (number, offset)

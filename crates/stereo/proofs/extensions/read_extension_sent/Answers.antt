@@ -24,7 +24,8 @@ pub returns-in_default-esc_field : goal.returns-in_default-esc_field
 unfolding extension_sent
 returns-in_default-esc_field c =
     -- the size is read, then what may follow it
-    let size_is : let a = c.args in field 4 a.s.now a.at a.end ≡ got c.in-Got.size c.in-Got.after_size = answered c.read_field-size_field.ensures c.in-Got.is in
+    let size_is : let a = c.args in field 4 a.s.now a.at a.end ≡ got c.in-Got.size c.in-Got.after_size =
+    answered c.read_field-size_field.ensures c.in-Got.is in
     let at-esc = c in
     let told = c.in_default-esc_field.is in
     passed _ c.refused_extension-in_default-esc_field.ensures told ∙ rw (size_is, answered at-esc.read_esc-esc_field.ensures told)
@@ -32,9 +33,11 @@ returns-in_default-esc_field c =
 pub overflow_add-total : goal.overflow_add-total
 overflow_add-total c =
     -- the size is read, then what may follow it
-    let size_is : let a = c.args in field 4 a.s.now a.at a.end ≡ got c.in-Got.size c.in-Got.after_size = answered c.read_field-size_field.ensures c.in-Got.is in
+    let size_is : let a = c.args in field 4 a.s.now a.at a.end ≡ got c.in-Got.size c.in-Got.after_size =
+    answered c.read_field-size_field.ensures c.in-Got.is in
     let esc-is : let a = c.args in
-    esc_count c.in-Got.size a.s.now c.in-Got.after_size a.end ≡ got c.in-Got-esc_field.esc c.in-Got-esc_field.after_esc = answered c.read_esc-esc_field.ensures c.in-Got-esc_field.is in
+    esc_count c.in-Got.size a.s.now c.in-Got.after_size a.end ≡ got c.in-Got-esc_field.esc c.in-Got-esc_field.after_esc =
+    answered c.read_esc-esc_field.ensures c.in-Got-esc_field.is in
     -- together they are at most 270
     let size-le : c.in-Got.size + c.in-Got-esc_field.esc ≤ 270 = let a = field_below 4 _ _ _ _ _ size_is in
     let b = esc-below _ _ _ _ _ _ esc-is in
@@ -44,9 +47,11 @@ overflow_add-total c =
 pub read_announced-read-requires : goal.read_announced-read-requires
 read_announced-read-requires c =
     -- the size is read, then what may follow it
-    let size_is : let a = c.args in field 4 a.s.now a.at a.end ≡ got c.in-Got.size c.in-Got.after_size = answered c.read_field-size_field.ensures c.in-Got.is in
+    let size_is : let a = c.args in field 4 a.s.now a.at a.end ≡ got c.in-Got.size c.in-Got.after_size =
+    answered c.read_field-size_field.ensures c.in-Got.is in
     let esc-is : let a = c.args in
-    esc_count c.in-Got.size a.s.now c.in-Got.after_size a.end ≡ got c.in-Got-esc_field.esc c.in-Got-esc_field.after_esc = answered c.read_esc-esc_field.ensures c.in-Got-esc_field.is in
+    esc_count c.in-Got.size a.s.now c.in-Got.after_size a.end ≡ got c.in-Got-esc_field.esc c.in-Got-esc_field.after_esc =
+    answered c.read_esc-esc_field.ensures c.in-Got-esc_field.is in
     -- together they are at most 270
     let size-le : c.in-Got.size + c.in-Got-esc_field.esc ≤ 270 = let a = field_below 4 _ _ _ _ _ size_is in
     let b = esc-below _ _ _ _ _ _ esc-is in
@@ -56,8 +61,10 @@ read_announced-read-requires c =
 pub returns : goal.returns
 returns c =
     -- the size is read, then what may follow it
-    let size_is : let a = c.args in field 4 a.s.now a.at a.end ≡ got c.in-Got.size c.in-Got.after_size = answered c.read_field-size_field.ensures c.in-Got.is in
+    let size_is : let a = c.args in field 4 a.s.now a.at a.end ≡ got c.in-Got.size c.in-Got.after_size =
+    answered c.read_field-size_field.ensures c.in-Got.is in
     let esc-is : let a = c.args in
-    esc_count c.in-Got.size a.s.now c.in-Got.after_size a.end ≡ got c.in-Got-esc_field.esc c.in-Got-esc_field.after_esc = answered c.read_esc-esc_field.ensures c.in-Got-esc_field.is in
+    esc_count c.in-Got.size a.s.now c.in-Got.after_size a.end ≡ got c.in-Got-esc_field.esc c.in-Got-esc_field.after_esc =
+    answered c.read_esc-esc_field.ensures c.in-Got-esc_field.is in
     let r = c.read_announced-read in
     sent-rest _ _ _ _ _ _ _ _ _ _ _ size_is esc-is r.result.ended r.result.part r.ensures

@@ -21,13 +21,15 @@ returns-in_default c =
 pub returns-then-id-ne0 : goal.returns-then-id-ne0
 unfolding phase_flag
 returns-then-id-ne0 c =
-    let id-is : let a = c.args in field 2 a.s.now a.at a.end ≡ got c.in-Got.id c.in-Got.after_id = answered c.read_field-id_field.ensures c.in-Got.is in
+    let id-is : let a = c.args in field 2 a.s.now a.at a.end ≡ got c.in-Got.id c.in-Got.after_id =
+    answered c.read_field-id_field.ensures c.in-Got.is in
     rw (id-is, ne_eqb _ _ c.if-id-ne0.true)
 
 pub returns-in_default-flag_field : goal.returns-in_default-flag_field
 unfolding phase_flag
 returns-in_default-flag_field c =
-    let id-is : let a = c.args in field 2 a.s.now a.at a.end ≡ got c.in-Got.id c.in-Got.after_id = answered c.read_field-id_field.ensures c.in-Got.is in
+    let id-is : let a = c.args in field 2 a.s.now a.at a.end ≡ got c.in-Got.id c.in-Got.after_id =
+    answered c.read_field-id_field.ensures c.in-Got.is in
     -- past the id the flag is left
     let flag-left : let i = c in
     let a = i.args in
@@ -40,7 +42,8 @@ returns-in_default-flag_field c =
 pub returns-then-has_mode : goal.returns-then-has_mode
 unfolding phase_flag
 returns-then-has_mode c =
-    let id-is : let a = c.args in field 2 a.s.now a.at a.end ≡ got c.in-Got.id c.in-Got.after_id = answered c.read_field-id_field.ensures c.in-Got.is in
+    let id-is : let a = c.args in field 2 a.s.now a.at a.end ≡ got c.in-Got.id c.in-Got.after_id =
+    answered c.read_field-id_field.ensures c.in-Got.is in
     -- past the id the flag is left
     let flag-left : let i = c in
     let a = i.args in
@@ -48,13 +51,15 @@ returns-then-has_mode c =
     ≡ expecting 34 (has_mode a.mode) (field 1) a.s.now i.in-Got.after_id a.end = rw (id-is, eq-eqb _ _ c.if-id-ne0.false) in
     let flag_is : let i = c in
     let a = i.args in
-    field 1 a.s.now i.in-Got.after_id a.end ≡ got c.in-Got-flag_field.on c.in-Got-flag_field.field-1 = answered c.read_field-flag_field.ensures c.in-Got-flag_field.is in
+    field 1 a.s.now i.in-Got.after_id a.end ≡ got c.in-Got-flag_field.on c.in-Got-flag_field.field-1 =
+    answered c.read_field-flag_field.ensures c.in-Got-flag_field.is in
     rw (flag-left, flag_is, ← c.has_mode.ensures, c.if-has_mode.true)
 
 pub returns : goal.returns
 unfolding phase_flag
 returns c =
-    let id-is : let a = c.args in field 2 a.s.now a.at a.end ≡ got c.in-Got.id c.in-Got.after_id = answered c.read_field-id_field.ensures c.in-Got.is in
+    let id-is : let a = c.args in field 2 a.s.now a.at a.end ≡ got c.in-Got.id c.in-Got.after_id =
+    answered c.read_field-id_field.ensures c.in-Got.is in
     -- past the id the flag is left
     let flag-left : let i = c in
     let a = i.args in
@@ -62,5 +67,6 @@ returns c =
     ≡ expecting 34 (has_mode a.mode) (field 1) a.s.now i.in-Got.after_id a.end = rw (id-is, eq-eqb _ _ c.if-id-ne0.false) in
     let flag_is : let i = c in
     let a = i.args in
-    field 1 a.s.now i.in-Got.after_id a.end ≡ got c.in-Got-flag_field.on c.in-Got-flag_field.field-1 = answered c.read_field-flag_field.ensures c.in-Got-flag_field.is in
+    field 1 a.s.now i.in-Got.after_id a.end ≡ got c.in-Got-flag_field.on c.in-Got-flag_field.field-1 =
+    answered c.read_field-flag_field.ensures c.in-Got-flag_field.is in
     rw (flag-left, flag_is, ← c.has_mode.ensures, c.if-has_mode.false)

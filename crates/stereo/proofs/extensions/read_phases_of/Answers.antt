@@ -68,7 +68,8 @@ loop-k-preserved c =
     record {
       within = omega arith;
       filled = filled-set 4 no_phases l.k l.phases x l.invariant.filled;
-      left = c.left_by-last.ensures ∙ sym (ap (after a.records a.mode) t ∙ after_more a.records a.mode ((take p.loop-k.k p.loop-k.phases)) x);
+      left = c.left_by-last.ensures
+          ∙ sym (ap (after a.records a.mode) t ∙ after_more a.records a.mode ((take p.loop-k.k p.loop-k.phases)) x);
       so_far = l.invariant.so_far ∙ counted-more (more f) l.k _ ((take p.loop-k.k p.loop-k.phases)) _ _ l.place _ _ p.loop-k-test.true
           (more-got f l.k ((take p.loop-k.k p.loop-k.phases)) x _ l.place _ _ q ∙ rw t);
     }
@@ -76,6 +77,8 @@ loop-k-preserved c =
 pub returns : goal.returns
 returns c =
     let l = c.loop-k in
-    let e = l.invariant.so_far ∙ counted-done (more ((next c.args.mode c.args.records))) l.k _ ((take c.loop-k.k c.loop-k.phases)) _ l.place _ c.loop-k-test.false in
+    let e = l.invariant.so_far
+    ∙ counted-done (more ((next c.args.mode c.args.records))) l.k _ ((take c.loop-k.k c.loop-k.phases)) _ l.place _
+    c.loop-k-test.false in
     ap (λ (rs : List Phases). got rs l.place) (sym (filled-padded 4 no_phases l.k l.phases (omega arith) l.invariant.filled))
     ∙ all-got _ _ _ _ _ _ _ _ _ e

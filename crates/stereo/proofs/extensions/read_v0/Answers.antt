@@ -23,7 +23,8 @@ returns-in_default-phases_ended c =
     let t = c.in_default-phases_ended.is in
     let r = c in
     let k = r in
-    ap (λ (x : Ended). ended_answer x c.refused_body-in_default-phases_ended.result.body) (c.refused_body-in_default-phases_ended.ensures ∙ t)
+    ap (λ (x : Ended). ended_answer x c.refused_body-in_default-phases_ended.result.body) (c.refused_body-in_default-phases_ended.ensures
+    ∙ t)
     ∙ v0-cut _ _ _ _ _ _ _ _ _ _ _ (answered k.read_phase_flag-flag_field.ensures k.in-Got.is)
     (ended_is r.read_all_phases-read.result.phases r.read_all_phases-read.ensures t)
 

@@ -48,6 +48,7 @@ returns c =
     let got-class = got-index in (
       frame-rest _ _ _ _ _ _ _ _ (answered got-class.read_field-class_field.ensures got-class.in-Got.is)
           (answered got-index.read_field-index_field.ensures got-index.in-Got-index_field.is)
-          n.envelope_count-envelopes.ensures.0 r.read_borders-read.result.ended r.read_borders-read.result.borders r.read_borders-read.ensures,
+          n.envelope_count-envelopes.ensures.0 r.read_borders-read.result.ended r.read_borders-read.result.borders
+          r.read_borders-read.ensures,
       n.envelope_count-envelopes.ensures.1,
     )

@@ -23,7 +23,8 @@ returns-in_default-coherences_ended c =
     let q = c in
     let e = q in
     let r = e in
-    ap (λ (x : Ended). ended_answer x c.refused_contents-in_default-coherences_ended.result.contents) (c.refused_contents-in_default-coherences_ended.ensures ∙ t)
+    ap (λ (x : Ended). ended_answer x c.refused_contents-in_default-coherences_ended.result.contents)
+    (c.refused_contents-in_default-coherences_ended.ensures ∙ t)
     ∙ icc-refused _ _ _ _ _ _ _ _ _ _ _ (ended_is r.read_levels-levels.result.rows r.read_levels-levels.ensures e.in-At.is)
     (ended_is q.read_coherences-coherences.result.rows q.read_coherences-coherences.ensures t)
 

@@ -23,7 +23,8 @@ returns-in_default-frame_ended c =
     let q = c in
     let e = q in
     let r = e in
-    ap (λ (x : Ended). ended_answer x c.refused_contents-in_default-frame_ended.result.contents) (c.refused_contents-in_default-frame_ended.ensures ∙ t)
+    ap (λ (x : Ended). ended_answer x c.refused_contents-in_default-frame_ended.result.contents)
+    (c.refused_contents-in_default-frame_ended.ensures ∙ t)
     ∙ frame_refused _ _ _ _ _ _ _ _ (ended_is r.read_header-headed.result.header r.read_header-headed.ensures e.in-At.is)
     (ended_is q.read_frame-framed.result.frame q.read_frame-framed.ensures.0 t)
 

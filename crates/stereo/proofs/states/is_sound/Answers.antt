@@ -23,7 +23,8 @@ unfolding sound
 returns-then-not-is_sound-2 c =
     -- the parts that are sound so far
     let setup-sound : sound_setup c.args.state.setup ≡ true = sym c.is_sound_setup.ensures ∙ c.if-not-is_sound_setup.false in
-    let iid-sound : let st = c.args.state in (sound_setup st.setup && sound_record Iid st.iid) ≡ true = and_of _ _ setup-sound (sym c.is_sound.ensures ∙ c.if-not-is_sound.false) in
+    let iid-sound : let st = c.args.state in (sound_setup st.setup && sound_record Iid st.iid) ≡ true =
+    and_of _ _ setup-sound (sym c.is_sound.ensures ∙ c.if-not-is_sound.false) in
     rw (iid-sound, sym c.is_sound-2.ensures ∙ c.if-not-is_sound-2.true)
 
 pub returns-then-not-is_sound-3 : goal.returns-then-not-is_sound-3
@@ -31,9 +32,11 @@ unfolding sound
 returns-then-not-is_sound-3 c =
     -- the parts that are sound so far
     let setup-sound : sound_setup c.args.state.setup ≡ true = sym c.is_sound_setup.ensures ∙ c.if-not-is_sound_setup.false in
-    let iid-sound : let st = c.args.state in (sound_setup st.setup && sound_record Iid st.iid) ≡ true = and_of _ _ setup-sound (sym c.is_sound.ensures ∙ c.if-not-is_sound.false) in
+    let iid-sound : let st = c.args.state in (sound_setup st.setup && sound_record Iid st.iid) ≡ true =
+    and_of _ _ setup-sound (sym c.is_sound.ensures ∙ c.if-not-is_sound.false) in
     let icc-sound : let st = c.args.state in
-    (sound_setup st.setup && sound_record Iid st.iid && sound_record Icc st.icc) ≡ true = and_of _ _ iid-sound (sym c.is_sound-2.ensures ∙ c.if-not-is_sound-2.false) in
+    (sound_setup st.setup && sound_record Iid st.iid && sound_record Icc st.icc) ≡ true =
+    and_of _ _ iid-sound (sym c.is_sound-2.ensures ∙ c.if-not-is_sound-2.false) in
     rw (icc-sound, sym c.is_sound-3.ensures ∙ c.if-not-is_sound-3.true)
 
 pub returns : goal.returns
@@ -41,9 +44,11 @@ unfolding sound
 returns c =
     -- the parts that are sound so far
     let setup-sound : sound_setup c.args.state.setup ≡ true = sym c.is_sound_setup.ensures ∙ c.if-not-is_sound_setup.false in
-    let iid-sound : let st = c.args.state in (sound_setup st.setup && sound_record Iid st.iid) ≡ true = and_of _ _ setup-sound (sym c.is_sound.ensures ∙ c.if-not-is_sound.false) in
+    let iid-sound : let st = c.args.state in (sound_setup st.setup && sound_record Iid st.iid) ≡ true =
+    and_of _ _ setup-sound (sym c.is_sound.ensures ∙ c.if-not-is_sound.false) in
     let icc-sound : let st = c.args.state in
-    (sound_setup st.setup && sound_record Iid st.iid && sound_record Icc st.icc) ≡ true = and_of _ _ iid-sound (sym c.is_sound-2.ensures ∙ c.if-not-is_sound-2.false) in
+    (sound_setup st.setup && sound_record Iid st.iid && sound_record Icc st.icc) ≡ true =
+    and_of _ _ iid-sound (sym c.is_sound-2.ensures ∙ c.if-not-is_sound-2.false) in
     let at-ipd = c in
     c.is_sound-4.ensures
     ∙ rw (icc-sound, sym at-ipd.is_sound-3.ensures ∙ at-ipd.if-not-is_sound-3.false)

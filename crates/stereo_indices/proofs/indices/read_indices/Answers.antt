@@ -65,7 +65,8 @@ returns-in-Refused c =
     -- the loop counts the definition's bands
     let so_far : let a = c.args in
     counted 0 (bands a.kind a.mode) (more next) [] a.s.now a.at a.end
-    ≡ counted c.loop-i.i (c.bands-count.result - c.loop-i.i) (more next) ((take c.loop-i.i c.loop-i.indices)) a.s.now c.loop-i.place a.end = let a = c.args in
+    ≡ counted c.loop-i.i (c.bands-count.result - c.loop-i.i) (more next) ((take c.loop-i.i c.loop-i.indices)) a.s.now c.loop-i.place
+    a.end = let a = c.args in
     ap (λ (n : ℕ). counted 0 n (more next) [] a.s.now a.at a.end) (sym c.bands-count.ensures.0)
     ∙ c.loop-i.invariant.so_far in
     let p = c in
@@ -121,7 +122,8 @@ returns c =
     -- the loop counts the definition's bands
     let so_far : let a = c.args in
     counted 0 (bands a.kind a.mode) (more next) [] a.s.now a.at a.end
-    ≡ counted c.loop-i.i (c.bands-count.result - c.loop-i.i) (more next) ((take c.loop-i.i c.loop-i.indices)) a.s.now c.loop-i.place a.end = let a = c.args in
+    ≡ counted c.loop-i.i (c.bands-count.result - c.loop-i.i) (more next) ((take c.loop-i.i c.loop-i.indices)) a.s.now c.loop-i.place
+    a.end = let a = c.args in
     ap (λ (n : ℕ). counted 0 n (more next) [] a.s.now a.at a.end) (sym c.bands-count.ensures.0)
     ∙ c.loop-i.invariant.so_far in
     let at-loop = c in

@@ -10,7 +10,8 @@ use Rattle.stereo_indices.specs.Indices.{index}
 use Rattle.bits.proofs.PaddedLaws.{Filled}
 use Rattle.stereo_indices.proofs.indices.read_indices.Given as goal
 
-pub record Inv (f : List ℤ → List ℕ → ℕ → ℕ → Answer ℤ) (s : List ℕ) (at end count : ℕ) (xs : List ℤ) (last : ℤ) (place i : ℕ) : Type 0 where
+pub record Inv (f : List ℤ → List ℕ → ℕ → ℕ →
+    Answer ℤ) (s : List ℕ) (at end count : ℕ) (xs : List ℤ) (last : ℤ) (place i : ℕ) : Type 0 where
   pub within : i ≤ count
   pub few : count ≤ 34
   pub filled : Filled 34 (pos 0) i xs

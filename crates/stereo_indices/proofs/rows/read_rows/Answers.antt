@@ -74,6 +74,8 @@ loop-k-preserved c =
 pub returns : goal.returns
 returns c =
     let l = c.loop-k in
-    let e = l.invariant.so_far ∙ counted-done (more ((next c.args.kind c.args.mode c.args.rec))) l.k _ ((take c.loop-k.k c.loop-k.rows)) _ l.place _ c.loop-k-test.false in
+    let e = l.invariant.so_far
+    ∙ counted-done (more ((next c.args.kind c.args.mode c.args.rec))) l.k _ ((take c.loop-k.k c.loop-k.rows)) _ l.place _
+    c.loop-k-test.false in
     ap (λ (rs : List Row). got rs l.place) (sym (filled-padded 4 no_row l.k l.rows (omega arith) l.invariant.filled))
     ∙ rows-got _ _ _ _ _ _ _ _ _ e

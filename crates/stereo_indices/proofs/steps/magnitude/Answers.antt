@@ -19,7 +19,8 @@ overflow_sub-result c =
     -- the byte, widened, is the byte
     let widened : to_z w16 (of_z w16 (to_z w8 (of_z w8 c.args.x))) ≡ c.args.x = wide_is _ c.ranges.x in
     -- the negative of one below 0 is its magnitude
-    let negated : let x = c.args.x in T (non_neg (pos 0 -ℤ x)) × (nat_abs (pos 0 -ℤ x) ≡ nat_abs x) = neg_parts c.args.x (rw widened at c.if-wide-lt0.true) in
+    let negated : let x = c.args.x in T (non_neg (pos 0 -ℤ x)) × (nat_abs (pos 0 -ℤ x) ≡ nat_abs x) =
+    neg_parts c.args.x (rw widened at c.if-wide-lt0.true) in
     let small : nat_abs (pos 0 -ℤ c.args.x) ≤ 128 = rw negated.1 (byte_abs _ c.ranges.x) in
     rw widened (fits 128 small (omega arith))
 
@@ -28,7 +29,8 @@ overflow_cast-result c =
     -- the byte, widened, is the byte
     let widened : to_z w16 (of_z w16 (to_z w8 (of_z w8 c.args.x))) ≡ c.args.x = wide_is _ c.ranges.x in
     -- the negative of one below 0 is its magnitude
-    let negated : let x = c.args.x in T (non_neg (pos 0 -ℤ x)) × (nat_abs (pos 0 -ℤ x) ≡ nat_abs x) = neg_parts c.args.x (rw widened at c.if-wide-lt0.true) in
+    let negated : let x = c.args.x in T (non_neg (pos 0 -ℤ x)) × (nat_abs (pos 0 -ℤ x) ≡ nat_abs x) =
+    neg_parts c.args.x (rw widened at c.if-wide-lt0.true) in
     let small : nat_abs (pos 0 -ℤ c.args.x) ≤ 128 = rw negated.1 (byte_abs _ c.ranges.x) in
     rw (widened, thru w16 128 small (omega arith)) (negated.0, record { fits = omega (arith, small) })
 
@@ -37,7 +39,8 @@ returns-then-wide-lt0 c =
     -- the byte, widened, is the byte
     let widened : to_z w16 (of_z w16 (to_z w8 (of_z w8 c.args.x))) ≡ c.args.x = wide_is _ c.ranges.x in
     -- the negative of one below 0 is its magnitude
-    let negated : let x = c.args.x in T (non_neg (pos 0 -ℤ x)) × (nat_abs (pos 0 -ℤ x) ≡ nat_abs x) = neg_parts c.args.x (rw widened at c.if-wide-lt0.true) in
+    let negated : let x = c.args.x in T (non_neg (pos 0 -ℤ x)) × (nat_abs (pos 0 -ℤ x) ≡ nat_abs x) =
+    neg_parts c.args.x (rw widened at c.if-wide-lt0.true) in
     let small : nat_abs (pos 0 -ℤ c.args.x) ≤ 128 = rw negated.1 (byte_abs _ c.ranges.x) in
     rw (widened, thru w16 128 small (omega arith)) (negated.1, small)
 

@@ -12,8 +12,10 @@ use Rattle.stereo_writer.proofs.extensions.put_all_phases.Given as goal
 
 abbrev pub invariant-loop-k : goal.invariant-loop-k
 invariant-loop-k l = (l.k ≤ 4) × (l.k ≤ l.n) × (length l.phases ≡ 4)
-    × (l.ipd ≡ record_after_rows l.initial.ipd l.mode (ipds (take l.k l.phases))) × (l.opd ≡ record_after_rows l.initial.opd l.mode (opds (take l.k l.phases)))
-    × Wrote (1362 * l.k) l.initial.out l.at (spell_each (spell_phases l.mode l.initial.ipd l.initial.opd) [] (take l.k l.phases)) l.place l.out
+    × (l.ipd ≡ record_after_rows l.initial.ipd l.mode (ipds (take l.k l.phases)))
+    × (l.opd ≡ record_after_rows l.initial.opd l.mode (opds (take l.k l.phases)))
+    × Wrote (1362 * l.k) l.initial.out l.at (spell_each (spell_phases l.mode l.initial.ipd l.initial.opd) [] (take l.k l.phases)) l.place
+    l.out
 
 abbrev pub decreases-loop-k : goal.decreases-loop-k
 decreases-loop-k l = 4 - l.k

@@ -43,9 +43,11 @@ pub overflow_sub-result-then-step-lt0 : goal.overflow_sub-result-then-step-lt0
 overflow_sub-result-then-step-lt0 c =
     let asked : ℤ = let a = c.args in step a.kind a.mode a.x a.y in
     -- what the code has is that step
-    let moved : to_z w16 (of_z w16 (code_step c.args.x c.args.y c.middle.result)) ≡ asked = step-thru c.args.kind c.args.mode _ _ _ c.ranges.x c.ranges.y c.middle.ensures in
+    let moved : to_z w16 (of_z w16 (code_step c.args.x c.args.y c.middle.result)) ≡ asked =
+    step-thru c.args.kind c.args.mode _ _ _ c.ranges.x c.ranges.y c.middle.ensures in
     -- below 0 it is turned round
-    let below : T (non_neg (pos 0 -ℤ asked)) × (nat_abs (pos 0 -ℤ asked) ≡ nat_abs asked) = neg_parts asked (rw moved at c.if-step-lt0.true) in
+    let below : T (non_neg (pos 0 -ℤ asked)) × (nat_abs (pos 0 -ℤ asked) ≡ nat_abs asked) =
+    neg_parts asked (rw moved at c.if-step-lt0.true) in
     let near : nat_abs asked ≤ 286 = step_abs c.args.kind c.args.mode _ _ c.ranges.x c.ranges.y in
     let turned : nat_abs (pos 0 -ℤ asked) ≤ 286 = rw below.1 near in
     rw moved (fits 286 turned (omega arith))
@@ -54,9 +56,11 @@ pub overflow_cast-result : goal.overflow_cast-result
 overflow_cast-result c =
     let asked : ℤ = let a = c.args in step a.kind a.mode a.x a.y in
     -- what the code has is that step
-    let moved : to_z w16 (of_z w16 (code_step c.args.x c.args.y c.middle.result)) ≡ asked = step-thru c.args.kind c.args.mode _ _ _ c.ranges.x c.ranges.y c.middle.ensures in
+    let moved : to_z w16 (of_z w16 (code_step c.args.x c.args.y c.middle.result)) ≡ asked =
+    step-thru c.args.kind c.args.mode _ _ _ c.ranges.x c.ranges.y c.middle.ensures in
     -- below 0 it is turned round
-    let below : T (non_neg (pos 0 -ℤ asked)) × (nat_abs (pos 0 -ℤ asked) ≡ nat_abs asked) = neg_parts asked (rw moved at c.if-step-lt0.true) in
+    let below : T (non_neg (pos 0 -ℤ asked)) × (nat_abs (pos 0 -ℤ asked) ≡ nat_abs asked) =
+    neg_parts asked (rw moved at c.if-step-lt0.true) in
     let near : nat_abs asked ≤ 286 = step_abs c.args.kind c.args.mode _ _ c.ranges.x c.ranges.y in
     let turned : nat_abs (pos 0 -ℤ asked) ≤ 286 = rw below.1 near in
     let l = turned in
@@ -67,9 +71,11 @@ unfolding entry_to
 returns-then-step-lt0 c =
     let asked : ℤ = let a = c.args in step a.kind a.mode a.x a.y in
     -- what the code has is that step
-    let moved : to_z w16 (of_z w16 (code_step c.args.x c.args.y c.middle.result)) ≡ asked = step-thru c.args.kind c.args.mode _ _ _ c.ranges.x c.ranges.y c.middle.ensures in
+    let moved : to_z w16 (of_z w16 (code_step c.args.x c.args.y c.middle.result)) ≡ asked =
+    step-thru c.args.kind c.args.mode _ _ _ c.ranges.x c.ranges.y c.middle.ensures in
     -- below 0 it is turned round
-    let below : T (non_neg (pos 0 -ℤ asked)) × (nat_abs (pos 0 -ℤ asked) ≡ nat_abs asked) = neg_parts asked (rw moved at c.if-step-lt0.true) in
+    let below : T (non_neg (pos 0 -ℤ asked)) × (nat_abs (pos 0 -ℤ asked) ≡ nat_abs asked) =
+    neg_parts asked (rw moved at c.if-step-lt0.true) in
     let near : nat_abs asked ≤ 286 = step_abs c.args.kind c.args.mode _ _ c.ranges.x c.ranges.y in
     let turned : nat_abs (pos 0 -ℤ asked) ≤ 286 = rw below.1 near in
     -- and its magnitude the entry, where no phase is written
@@ -81,7 +87,8 @@ overflow_cast-result-2 c =
     let asked : ℤ = let a = c.args in step a.kind a.mode a.x a.y in
     let near : nat_abs asked ≤ 286 = step_abs c.args.kind c.args.mode _ _ c.ranges.x c.ranges.y in
     -- what the code has is that step
-    let moved : to_z w16 (of_z w16 (code_step c.args.x c.args.y c.middle.result)) ≡ asked = step-thru c.args.kind c.args.mode _ _ _ c.ranges.x c.ranges.y c.middle.ensures in
+    let moved : to_z w16 (of_z w16 (code_step c.args.x c.args.y c.middle.result)) ≡ asked =
+    step-thru c.args.kind c.args.mode _ _ _ c.ranges.x c.ranges.y c.middle.ensures in
     let l = near in
     rw moved (not_neg asked (rw moved at c.if-step-lt0.false), record { fits = omega arith })
 
@@ -90,7 +97,8 @@ unfolding entry_to
 returns c =
     let asked : ℤ = let a = c.args in step a.kind a.mode a.x a.y in
     -- what the code has is that step
-    let moved : to_z w16 (of_z w16 (code_step c.args.x c.args.y c.middle.result)) ≡ asked = step-thru c.args.kind c.args.mode _ _ _ c.ranges.x c.ranges.y c.middle.ensures in
+    let moved : to_z w16 (of_z w16 (code_step c.args.x c.args.y c.middle.result)) ≡ asked =
+    step-thru c.args.kind c.args.mode _ _ _ c.ranges.x c.ranges.y c.middle.ensures in
     -- and its magnitude the entry, where no phase is written
     let level : let a = c.args in entry_to a.kind a.mode a.x a.y ≡ nat_abs asked = rw (sym c.is_phase.ensures ∙ c.if-is_phase.false) in
     rw moved (sym level)

@@ -24,7 +24,12 @@ returns-then-a-b-4 c =
     let at-iidmode = c in
     let at-iid = at-iidmode in
     let at_there = at-iid in
-    rw (eq-eqb _ _ at_there.if-a-b.false, eq-eqb _ _ at-iid.if-a-b-2.false, eq-eqb _ _ at-iidmode.if-a-b-3.false, ne_eqb _ _ c.if-a-b-4.true)
+    rw (
+      eq-eqb _ _ at_there.if-a-b.false,
+      eq-eqb _ _ at-iid.if-a-b-2.false,
+      eq-eqb _ _ at-iidmode.if-a-b-3.false,
+      ne_eqb _ _ c.if-a-b-4.true,
+    )
 
 pub returns-then-a-b-5 : goal.returns-then-a-b-5
 unfolding same_header

@@ -9,7 +9,8 @@ unfolding same_phases
 returns-then-not-same_rows c =
     -- what is found of the IPD rows
     let first_rows : let a = c.args in
-    same_list same_row (ipds a.xs) (ipds a.ys) ≡ c.same_rows.result = rw (← c.phase_rows.ensures, ← c.phase_rows-2.ensures) (sym c.same_rows.ensures) in
+    same_list same_row (ipds a.xs) (ipds a.ys) ≡ c.same_rows.result =
+    rw (← c.phase_rows.ensures, ← c.phase_rows-2.ensures) (sym c.same_rows.ensures) in
     rw (first_rows, c.if-not-same_rows.true)
 
 pub returns : goal.returns
@@ -17,7 +18,8 @@ unfolding same_phases
 returns c =
     -- what is found of the IPD rows
     let first_rows : let a = c.args in
-    same_list same_row (ipds a.xs) (ipds a.ys) ≡ c.same_rows.result = rw (← c.phase_rows.ensures, ← c.phase_rows-2.ensures) (sym c.same_rows.ensures) in
+    same_list same_row (ipds a.xs) (ipds a.ys) ≡ c.same_rows.result =
+    rw (← c.phase_rows.ensures, ← c.phase_rows-2.ensures) (sym c.same_rows.ensures) in
     let compared = c in
     c.same_rows-2.ensures
     ∙ rw (
