@@ -11,27 +11,19 @@ use Rattle.bits.specs.Packed.{bytes_for}
 use Rattle.adts.specs.Promise.{header_at, stream_at}
 use Rattle.adts_files.proofs.RowLaws.{front-is, frame-fits}
 use Rattle.import.proofs.GatheringLaws.{unwrap-room}
-use Rattle.import.proofs.gathering.unwrap_at.Statement.{statement}
-use Rattle.import.proofs.gathering.unwrap_at.Tie as tie
+use Rattle.import.proofs.gathering.unwrap_at.Goals as goal
 
-returns : tie.Need-returns
+pub returns : goal.returns
 returns c =
-    let unwrap = c.before.before in
-    let a = unwrap.before.before.before.before.args in
-    let r = unwrap.unwrap.ensures.0 in
+    let a = c.args in
+    let r = c.unwrap.ensures.0 in
     let h = header_at a.bytes.now 0 true in
-    let short : unwrap.unwrap.result.length ≤ length a.bytes.now = rw (r, front-is a.bytes.now) (frame-fits a.bytes.now _) in
+    let short : c.unwrap.result.length ≤ length a.bytes.now = rw (r, front-is a.bytes.now) (frame-fits a.bytes.now _) in
     let rest = take (length a.image.now - a.at) (drop a.at a.image.now) in
-    let room : bytes_for unwrap.unwrap.result.reading.bits ≤ length rest =
-    unwrap-room h (stream_at a.bytes.now 0 h) _ unwrap.unwrap.result r in
+    let room : bytes_for c.unwrap.result.reading.bits ≤ length rest =
+    unwrap-room h (stream_at a.bytes.now 0 h) _ c.unwrap.result r in
     let part : length (take (length a.image.now - a.at) (drop a.at a.image.now)) ≡ length a.image.now - a.at =
     length-take-le (length a.image.now - a.at) (drop a.at a.image.now) (omega (arith, length-drop a.at a.image.now)) in
-    let fits : a.at + bytes_for unwrap.unwrap.result.reading.bits ≤ length a.image.now =
-    omega (arith, room, part, unwrap.before.before.before.before.requires) in
+    let fits : a.at + bytes_for c.unwrap.result.reading.bits ≤ length a.image.now =
+    omega (arith, room, part, c.requires) in
     (short, search rules)
-
-pub unwrap-at-spec : {M : Type 1} → statement M
-unwrap-at-spec =
-    tie.close
-    (tie.spec (λ c. search rules) (λ c. search rules) (λ c. search rules) (λ c κs. search rules) (λ c. search rules)
-    returns)
