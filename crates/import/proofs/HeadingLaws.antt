@@ -68,7 +68,8 @@ offsets_long base ends (suc k) =
 
 -- the count, the index, the offsets and the end, one after another
 module _ {t u v w : List ℕ} (s : List ℕ) (at index k last : ℕ) (ends : List ℕ) (room : at + 4 * k + 6 ≤ length s) where
-  pub heading-put : t ≡ over s at (pair_of (2 * k)) → u ≡ over t (at + 2) (pair_of index) → v ≡ over u (at + 4) (offsets_of (4 * k + 6) ends k)
+  pub heading-put : t ≡ over s at (pair_of (2 * k)) → u ≡ over t (at + 2) (pair_of index) →
+      v ≡ over u (at + 4) (offsets_of (4 * k + 6) ends k)
       → last ≡ start_of ends k → w ≡ over v (at + 4 + 4 * k) (pair_of (4 * k + 6 + last)) → w ≡ over s at (heading_of index ends k)
   unfolding heading_of
   heading-put e f g l h =

@@ -101,11 +101,13 @@ form_from (b ∷ bs) ns zero h = refl
 form_from (b ∷ bs) ns (suc i) h = form_from bs ns i (omega arith)
 
 form_next : (l : Line) (form ns rest : List ℕ) (i : ℕ) → i < length form → pick (is_mark (get_or form i 0)) (drop 1 ns) ns ≡ rest
-    → with_text l (form_text (drop i form) ns) ≡ with_text (with_text l (marked_text (get_or form i 0) ns)) (form_text (drop (i + 1) form) rest)
+    → with_text l (form_text (drop i form) ns)
+    ≡ with_text (with_text l (marked_text (get_or form i 0) ns)) (form_text (drop (i + 1) form) rest)
 form_next l form ns rest i h e =
     ap (with_text l) (form_from form ns i h)
     ∙ text_after l (marked_text (get_or form i 0) ns) (form_text (drop (suc i) form) (pick (is_mark (get_or form i 0)) (drop 1 ns) ns))
-    ∙ ap₂ (λ (k : ℕ) (xs : List ℕ). with_text (with_text l (marked_text (get_or form i 0) ns)) (form_text (drop k form) xs)) (sym (add-one i)) e
+    ∙ ap₂ (λ (k : ℕ) (xs : List ℕ). with_text (with_text l (marked_text (get_or form i 0) ns)) (form_text (drop k form) xs))
+    (sym (add-one i)) e
 
 module _ (l : Line) (form ns : List ℕ) (i place : ℕ) (h : i < length form) where
   pub form-mark : get_or form i 0 ≡ 35 → with_text l (form_text (drop i form) (drop place ns))

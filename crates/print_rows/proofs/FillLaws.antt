@@ -23,7 +23,8 @@ first-digit b (suc k) n =
     ∙ ap (λ (m : ℕ). hex_digit_ascii (m % b) ∷ rest) (div-div-eq-div-mul n b (b ^ k) ∙ ap (λ (d : ℕ). n / d) (sym (pow-succ' b k)))
 
 bit_next : (l : Line) (value left : ℕ) → 0 < left
-    → with_text l (last_digits 2 left value) ≡ with_text (with_byte l (hex_digit_ascii (value / 2 ^ (left - 1) % 2))) (last_digits 2 (left - 1) value)
+    → with_text l (last_digits 2 left value)
+    ≡ with_text (with_byte l (hex_digit_ascii (value / 2 ^ (left - 1) % 2))) (last_digits 2 (left - 1) value)
 unfolding with_text
 bit_next l value zero h = absurd (omega arith)
 bit_next l value (suc k) h = let e : suc k - 1 ≡ k = omega arith in rw (e, first-digit 2 k value)

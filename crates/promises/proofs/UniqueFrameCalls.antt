@@ -20,7 +20,6 @@ pub one-unwrap-call : (c : unwrap_c.Call) (r r' : ℕ) (o o' a a' : List ℕ) �
 one-unwrap-call c r r' o o' a a' p q = (same _ p.0 q.0, same _ p.1.0 q.1.0, same _ p.1.1 q.1.1)
 
 -- wrapping: what comes back, the lent bytes and the answer
-pub one-wrap-call : (c : wrap_c.Call) (r r' : ℕ) (o o' a a' : List ℕ) → wrap_c.WrapStreamPromise c r o a →
-    wrap_c.WrapStreamPromise c r' o' a'
-    → (r ≡ r') × (o ≡ o') × (a ≡ a')
+pub one-wrap-call : (c : wrap_c.Call) (r r' : ℕ) (o o' a a' : List ℕ) → wrap_c.WrapStreamPromise c r o a
+    → wrap_c.WrapStreamPromise c r' o' a' → (r ≡ r') × (o ≡ o') × (a ≡ a')
 one-wrap-call c r r' o o' a a' p q = (same _ p.0 q.0, same _ p.1.0 q.1.0, same _ p.1.1 q.1.1)

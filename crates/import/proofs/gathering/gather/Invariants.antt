@@ -8,7 +8,8 @@ use Rattle.import.proofs.gathering.gather.Given as goal
 
 abbrev pub invariant-loop-w : goal.invariant-loop-w
 invariant-loop-w g l =
-    (length l.buffer ≡ length l.initial.buffer) × (length l.image ≡ length l.initial.image) × (length l.ends ≡ length l.initial.ends) × FitsImage l.g
+    (length l.buffer ≡ length l.initial.buffer) × (length l.image ≡ length l.initial.image) × (length l.ends ≡ length l.initial.ends)
+    × FitsImage l.g
     × (l.w.start ≤ l.w.end) × (l.w.end ≤ length l.buffer)
 
 abbrev pub decreases-loop-w : goal.decreases-loop-w

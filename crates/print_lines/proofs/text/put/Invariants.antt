@@ -8,7 +8,8 @@ use Rattle.print_lines.proofs.text.put.Given as goal
 
 abbrev pub invariant-loop-i : goal.invariant-loop-i
 invariant-loop-i l =
-    (l.i ≤ length l.words) × (length l.line ≡ length l.initial.line) × (with_text (line_of l.line l.to) (drop l.i l.words) ≡ with_text (line_of l.initial.line l.at) l.words)
+    (l.i ≤ length l.words) × (length l.line ≡ length l.initial.line)
+    × (with_text (line_of l.line l.to) (drop l.i l.words) ≡ with_text (line_of l.initial.line l.at) l.words)
 
 abbrev pub decreases-loop-i : goal.decreases-loop-i
 decreases-loop-i l = length l.words - l.i

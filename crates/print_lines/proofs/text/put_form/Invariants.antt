@@ -9,7 +9,8 @@ use Rattle.print_lines.proofs.text.put_form.Given as goal
 abbrev pub invariant-loop-i : goal.invariant-loop-i
 invariant-loop-i l =
     (l.i ≤ length l.form) × (l.place ≤ l.i) × (length l.line ≡ length l.initial.line)
-    × (with_text (line_of l.line l.to) (form_text (drop l.i l.form) (drop l.place l.numbers)) ≡ with_text (line_of l.initial.line l.at) (form_text l.form l.numbers))
+    × (with_text (line_of l.line l.to) (form_text (drop l.i l.form) (drop l.place l.numbers))
+    ≡ with_text (line_of l.initial.line l.at) (form_text l.form l.numbers))
 
 abbrev pub decreases-loop-i : goal.decreases-loop-i
 decreases-loop-i l = length l.form - l.i

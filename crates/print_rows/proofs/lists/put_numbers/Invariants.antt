@@ -10,7 +10,8 @@ use Rattle.print_rows.proofs.lists.put_numbers.Given as goal
 abbrev pub invariant-loop-i : goal.invariant-loop-i
 invariant-loop-i l =
     (l.i ≤ l.n) × (length l.line ≡ length l.initial.line)
-    × (with_text (line_of l.line l.to) (numbers_from l.numbers l.n l.i) ≡ with_text (line_of l.initial.line l.at) (numbers_from l.numbers l.n 0))
+    × (with_text (line_of l.line l.to) (numbers_from l.numbers l.n l.i)
+    ≡ with_text (line_of l.initial.line l.at) (numbers_from l.numbers l.n 0))
 
 abbrev pub decreases-loop-i : goal.decreases-loop-i
 decreases-loop-i l = l.n - l.i
