@@ -21,6 +21,7 @@ UNPORTABLE = {
     "  %r6 = ptrtoint ptr %r0 to i64": "a pointer made a number",
     "  %r6 = inttoptr i64 %r1 to ptr": "a pointer made a number",
     "  %r6 = insertvalue { ptr, i64 } poison, ptr %r0, 0": "a value of parts",
+    "  %r6 = insertvalue [2 x ptr] poison, ptr %r0, 0": "a value of parts",
     "  %r6 = load { i64, ptr }, ptr %r3, align 8": "a value of parts",
     "  %r6 = load { i64, i128 }, ptr %r3, align 8": "a value of parts",
     "  %r6 = load <2 x i64>, ptr %r3, align 8": "a value of parts",
