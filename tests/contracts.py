@@ -12,6 +12,9 @@ FUNCTION = re.compile(
     re.M | re.S,
 )
 
+# The functions of a type, which stand in its `impl`; those of a trait have the trait's contracts.
+METHODS = re.compile(r"^impl(?:<[^\n]*?>)? (?P<type>\w+)(?:<[^\n]*>)? \{\n(?P<body>.*?)^\}$", re.M | re.S)
+
 
 class Function:
     """A function of the source: its callable path, whether other crates can call it, its contract, and its body."""
@@ -61,6 +64,9 @@ def functions(static=False):
         for found in FUNCTION.finditer(text):
             place = crate if module == "lib" else f"{crate}::{module}"
             yield Function(place, found, bool(found["public"]) and is_open(crate, module), named)
+        for block in METHODS.finditer(text):
+            for found in FUNCTION.finditer(re.sub(r"^    ", "", block["body"], flags=re.M)):
+                yield Function(f"{crate}::{block['type']}", found, bool(found["public"]) and is_open(crate, module), named)
 
 
 def user_level():

@@ -7,22 +7,21 @@ use mathlib.Core.List.{List}
 use lib.Dec.{eqb, leb}
 use lib.IntN.{ℤ}
 use native.Mathlib.Omega.{arith}
-use Rattle.bits.specs.Reader.{Answer, got, refused, pick}
+use Rattle.bits.specs.Reader.{Answer, got, refused, pick, ◌>>=◌}
 use Rattle.bits.specs.Field.{field}
 use Rattle.bits.specs.Places.{here}
 use Rattle.bits.specs.Payload.{ended}
-use Rattle.bits.specs.InnerAnswers.{ended_answer}
 use Rattle.bits.proofs.FieldLaws.{field-taken}
 use Rattle.bits.proofs.Lawful.{never, same-value, split, tested-got}
-use Rattle.bits.specs.declared.Ended.{Ended}
-use Rattle.bits.specs.declared.Ended.TheVariants.{At, Refused}
+use Rattle.bits.specs.declared.Refusal.{Refusal}
+use Rattle.std.specs.Prelude.{Result, Ok, Err}
 use Rattle.channel.proofs.StreamLawful.{stream-lawful}
 use Rattle.channel.specs.Stream.{Stream, stream}
 use Rattle.channel.specs.InnerAnswers.{HoldsStream}
 use Rattle.channel.specs.declared.stream.Head.{Head}
 use Rattle.adts.specs.Block.{Block, element, single_channel, raw_block}
 use Rattle.adts.specs.Frame.{stream_in}
-use Rattle.adts.specs.InnerAnswers.{Closes, HoldsElement, HoldsHead, Used}
+use Rattle.adts.specs.InnerAnswers.{HoldsElement, HoldsHead}
 
 module _ (index : ℕ) (s : List ℕ) (end : ℕ) where
   -- an id or a tag that is refused
@@ -44,14 +43,15 @@ module _ (index : ℕ) (s : List ℕ) (end : ℕ) where
       omega arith
 
   -- the stream after them
-  pub after_tag : {v w next first : ℕ} → element 0 s 56 end ≡ got v next → field 4 s next end ≡ got w first → (r : Ended) (h : Head)
-      (books factors : List ℕ) (lines : List ℤ) → HoldsStream r h books factors lines (stream index s first end)
-      → HoldsElement r h books factors lines (single_channel index s 56 end)
+  pub after_tag : {v w next first : ℕ} → element 0 s 56 end ≡ got v next → field 4 s next end ≡ got w first
+      → (r : Result (Head × ℕ) Refusal) (books factors : List ℕ) (lines : List ℤ)
+      → HoldsStream r books factors lines (stream index s first end)
+      → HoldsElement r books factors lines (single_channel index s 56 end)
   unfolding single_channel here
-  after_tag {next = next} {first = first} e f (At last) h books factors lines o =
+  after_tag {next = next} {first = first} e f (Ok h) books factors lines o =
       let a = tag_at e f in
       (o.0, o.1, rw (e, f, o.2, a))
-  after_tag e f (Refused n place) h books factors lines o = rw (e, f, o)
+  after_tag e f (Err q) books factors lines o = rw (e, f, o)
 
   -- the block of an element that is refused
   pub no-element : {n p : ℕ} → single_channel index s 56 end ≡ refused n p → stream_in (raw_block index s 56 end) ≡ refused n p
@@ -59,10 +59,10 @@ module _ (index : ℕ) (s : List ℕ) (end : ℕ) where
   no-element e = rw e
 
   -- the block of an element, and how what stands after it ended
-  pub with-element : {x : Block} {last : ℕ} {r q : Ended} → single_channel index s 56 end ≡ got x last → Closes r s last end → r ≡ q
-      → stream_in (raw_block index s 56 end) ≡ stream_in (ended_answer q x)
+  pub with-element : {x : Block} {last : ℕ} → single_channel index s 56 end ≡ got x last
+      → raw_block index s 56 end ≡ (element 7 >>= λ id. ended x) s last end
   unfolding raw_block
-  with-element {x} e f g = rw (e, ← f x, g)
+  with-element e = rw e
 
   -- what stands after the element leaves its value as it is
   closed : (x y : Block) (m next : ℕ) → ended x s m end ≡ got y next → x ≡ y
@@ -117,12 +117,16 @@ module _ (index : ℕ) (s : List ℕ) (end : ℕ) where
       ((stream-lawful index).accepts.within s 63 end (63 + bits) x h.0 h.1).1
 
 -- a stream that was read, whatever its arrays are
-pub head-held : (r : Ended) (h : Head) (books factors : List ℕ) (lines : List ℤ) (x : Answer Stream) → HoldsStream r h books factors lines x
-    → HoldsHead r h x
-head-held (At bits) h books factors lines x o = (record { head = h; books = books; factors = factors; coded = o.0 }, refl, o.2)
-head-held (Refused n place) h books factors lines x o = o
+pub head-held : (r : Result (Head × ℕ) Refusal) (books factors : List ℕ) (lines : List ℤ) (x : Answer Stream)
+    → HoldsStream r books factors lines x → HoldsHead r x
+head-held (Ok h) books factors lines x o = (record { head = h.0; books = books; factors = factors; coded = o.0 }, refl, o.2)
+head-held (Err e) books factors lines x o = o
 
-pub stream-used : (r : Ended) (h : Head) (books factors : List ℕ) (lines : List ℤ) (x : Answer Stream)
-    → HoldsStream r h books factors lines x → Used r x
-stream-used (At bits) h books factors lines x o = (record { head = h; books = books; factors = factors; coded = o.0 }, o.2)
-stream-used (Refused n place) h books factors lines x o = o
+-- what the code cites
+pub ruleset element_laws = (no-id, no-tag, after_tag)
+
+pub ruleset block_laws = (no-element, with-element)
+
+pub ruleset lone_laws = (head-held)
+
+pub ruleset short_laws = (bits-within)

@@ -21,6 +21,11 @@ unfolding each_bit
 each-total s at zero = refl
 each-total s at (suc n) = rw (total-append (each_bit s at n) (piece (bit_at s (at + n)) 1 ∷ []), each-total s at n) (omega arith)
 
+-- no bit
+pub each_none : (s out : List ℕ) (place from : ℕ) → put_all out place (each_bit s from 0) ≡ out
+unfolding each_bit put_all
+each_none s out place from = refl
+
 -- one bit more
 pub each_more : (s out : List ℕ) (place from i : ℕ)
     → put (put_all out place (each_bit s from i)) (place + i) (bits_from s (from + i) 1) 1 ≡ put_all out place (each_bit s from (i + 1))
@@ -40,3 +45,8 @@ packed-over ps old n e h =
     let long = put-all-length (replicate n 0) 0 ps in
     let front = over-front old (put_all (replicate n 0) 0 ps) n (long ∙ zeros) in
     rw (← e) (put-all-append (replicate n 0) (drop n old) 0 ps (omega arith) ∙ sym front)
+
+-- what the code cites
+pub ruleset run_laws = (each_none, each_more, put-all-length)
+
+pub ruleset cut_laws = (each-total, packed-over)

@@ -1,14 +1,15 @@
 -- A header that is whole is judged field by field at fixed places, so its reader's answer is settled by the tests of these fields.
 -- Assumes nothing.
 use Prim.Native.Nat.{ℕ, ◌*◌, ◌<◌, ◌≤◌}
-use mathlib.Core.Path.{◌≡◌, refl, sym, ◌∙◌, ap}
+use mathlib.Core.Path.{◌≡◌, refl, ap}
 use mathlib.Core.Bool.{Bool, true, false}
 use mathlib.Core.List.{List}
 use native.Mathlib.Omega.{arith}
 use lib.Dec.{eqb}
 use lib.ListN.{length}
-use borrow.Author.Tests.{eq-eqb, ne_eqb, le-leb, lt-leb}
+use borrow.Author.Tests.{ne_eqb, le-leb, lt-leb}
 use Rattle.bits.specs.Bits.{bits_from}
+use Rattle.bits.proofs.BitLaws.{bits_from-lt}
 use Rattle.bits.specs.Reader.{got, refused, pick}
 use Rattle.bits.specs.Field.{field}
 use Rattle.bits.specs.Places.{placed, one_field}
@@ -17,13 +18,6 @@ use Rattle.bits.specs.Sampling.{known_index}
 use Rattle.adts.specs.Header.{syncword, only, sampling_index, fixed_half, variable_half, header}
 use Rattle.adts.specs.Frame.{whole_header, fitting, length_judged, frame_header}
 use Rattle.adts.specs.InnerHeader.{index_in, kept, header_refusal}
-
--- a number that was read, and a test of it
-pub passes : {r v k : ℕ} → r ≡ v → r ≡ k → eqb v k ≡ true
-passes e f = eq-eqb _ _ (sym e ∙ f)
-
-pub fails : {r v k : ℕ} → r ≡ v → (r ≡ k → ⊥) → eqb v k ≡ false
-fails e f = ne_eqb _ _ (λ g. f (e ∙ g))
 
 -- the reader of a whole header, by the tests of its fields
 header_is : (s : List ℕ)
@@ -62,3 +56,8 @@ header_fault s h e o = rw (whole_is s h, ← e, ne_eqb _ 0 o)
 
 pub header-right : (s : List ℕ) {n : ℕ} → 7 ≤ length s → n ≡ header_refusal s → n ≡ 0 → fitting (length s) (kept s) ≡ frame_header s
 header-right s h e o = rw (whole_is s h, ← e, o)
+
+-- what the code cites
+pub ruleset field_laws = (bits_from-lt)
+
+pub ruleset header_laws = (header-short, header_fault, header-right)

@@ -9,7 +9,8 @@ use Rattle.bits.specs.Packed.{put_all}
 use Rattle.bits.proofs.Spelt.{total-append}
 use Rattle.adts.specs.Cut.{each_bit}
 use Rattle.adts.specs.Wrapping.{spell_kind, spell_voice, spell_variable_half, spell_block}
-use Rattle.adts.proofs.CutLaws.{each-total}
+use Rattle.bits.proofs.PutLaws.{put-all-more}
+use Rattle.adts.proofs.CutLaws.{each-total, packed-over}
 
 block-total : (bytes : List ℕ) (n : ℕ) → total (spell_block bytes n) ≡ 3 + 4 + n + 3
 unfolding spell_block
@@ -27,3 +28,8 @@ pub parts-put : (index size : ℕ) (bytes : List ℕ) (n : ℕ) (out : List ℕ)
     ≡ put_all out 0 (spell_kind ++ spell_voice index ++ spell_variable_half size ++ spell_block bytes n)
 unfolding put_all spell_kind spell_voice spell_variable_half
 parts-put index size bytes n out = refl
+
+-- what the code cites
+pub ruleset run_laws = (each-total, put-all-more)
+
+pub ruleset frame_laws = (frame-total, parts-put, packed-over)

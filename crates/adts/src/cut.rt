@@ -12,26 +12,22 @@ pub fn clear(out: &mut [u8], n: usize)
     requires { n ≤ length out.old }
     ensures { out.new ≡ replicate n 0 ++ drop n out.old }
 {
-    let mut i = 0;
-    while i < n {
-        out[i] = 0;
-        i += 1;
-    }
+    out[..n].fill(0);
 }
 
 // The n bits from a place of a slice are put at a place.
+#[tactic(auto, using(crate::proofs::CutLaws::run_laws))]
 pub fn put_run(out: &mut [u8], at: usize, s: &[u8], from: usize, n: usize)
     requires { (at + n ≤ 8 * length out.old) × (at + n < 2 ^ 32) × (from + n < 2 ^ 32) }
     ensures { out.new ≡ put_all out.old at (each_bit s.now from n) }
 {
-    let mut i = 0;
-    while i < n {
+    for i in 0..n {
         put_bits(out, at + i, bits_at(s, from + i, 1), 1);
-        i += 1;
     }
 }
 
 // The n bits from a place of a slice are put at the front of a lent buffer, the last byte filled up with zero bits.
+#[tactic(auto, using(crate::proofs::CutLaws::cut_laws), unfolding(crate::specs::Cut::cut_out))]
 pub fn cut_out(out: &mut [u8], s: &[u8], from: usize, n: usize)
     requires { (bytes_for n ≤ length out.old) × (from + n < 2 ^ 31) }
     ensures { out.new ≡ over out.old 0 (cut_out s.now from n) }

@@ -2,31 +2,20 @@
 ghost use Rattle.std.specs.Prelude.{◌≡◌, ◌<◌, ◌≤◌, length};
 ghost use Rattle.adts.specs.Frame.{fitting, frame_header};
 ghost use Rattle.adts.specs.InnerHeader.{index_in, kept, header_refusal};
-ghost use Rattle.adts.specs.InnerAnswers.{header_answer};
+ghost use Rattle.adts.specs.InnerAnswers.{header_answer, Lies};
 
-use bits::bits_at;
 use bits::calls::is_known_index;
+use bits::{Answer, bits_at, refused};
 
-// A header that was judged: a refusal's number, or 0 with the sampling index and the frame's length in bytes.
+// What is kept of a header: the sampling index, and the frame's length in bytes, the header's 7 among them.
 #[derive(Clone, Copy)]
 pub struct Header {
-    pub number: u8,
     pub index: u8,
     pub length: usize,
 }
 
-// A header that is refused.
-fn refused_header(number: u8) -> Header
-    ensures { result ≡ record { number = number; index = 0; length = 0 } }
-{
-    Header {
-        number,
-        index: 0,
-        length: 0,
-    }
-}
-
 // The sampling index of a whole header.
+#[tactic(auto, using(crate::proofs::HeaderLaws::field_laws))]
 fn index_in(s: &[u8]) -> u8
     ensures { result ≡ index_in s.now }
 {
@@ -34,63 +23,54 @@ fn index_in(s: &[u8]) -> u8
 }
 
 // The first fault of the fields of a whole header: a refusal's number, or 0.
+#[tactic(auto, unfolding(crate::specs::InnerHeader::header_refusal))]
 fn header_refusal(s: &[u8]) -> u8
     ensures { result ≡ header_refusal s.now }
 {
     if bits_at(s, 0, 12) != 4095 {
         return 50;
     }
-    if bits_at(s, 13, 2) != 0 {
+    let layer = bits_at(s, 13, 2);
+    let protection_absent = bits_at(s, 15, 1);
+    let profile = bits_at(s, 16, 2);
+    if layer != 0 || protection_absent != 1 || profile != 1 {
         return 51;
     }
-    if bits_at(s, 15, 1) != 1 {
-        return 51;
-    }
-    if bits_at(s, 16, 2) != 1 {
-        return 51;
-    }
-    if !is_known_index(index_in(s) as usize) {
-        return 51;
-    }
-    if bits_at(s, 23, 3) != 1 {
-        return 51;
-    }
-    if bits_at(s, 54, 2) != 0 {
+    let known = is_known_index(index_in(s) as usize);
+    let channels = bits_at(s, 23, 3);
+    let blocks = bits_at(s, 54, 2);
+    if !known || channels != 1 || blocks != 0 {
         return 51;
     }
     0
 }
 
-// The frame's length in bytes, of a whole header: 7 at least, and no more than there are, or 52.
-fn judge_length(s: &[u8]) -> Header
+// A whole header, whose frame's length in bytes has to be 7 at least, and no more than there are, or 52.
+#[tactic(auto, using(crate::proofs::HeaderLaws::field_laws), unfolding(crate::specs::Frame::fitting))]
+fn judge_length(s: &[u8]) -> Answer<Header>
     ensures result_value { header_answer result ≡ fitting (length s.now) (kept s.now) }
-    ensures length_in_bounds { (result.length ≤ length s.now) × (result.length < 8192) }
+    ensures length_in_bounds { Lies s.now result }
 {
     let length = bits_at(s, 30, 13) as usize;
-    if length < 7 {
-        return refused_header(52);
+    if length < 7 || s.len() < length {
+        return refused(52, 0);
     }
-    if s.len() < length {
-        return refused_header(52);
-    }
-    Header {
-        number: 0,
-        index: index_in(s),
-        length,
-    }
+    let index = index_in(s);
+    Ok((Header { index, length }, 56))
 }
 
 // The header of the frame at the front of a slice.
-pub fn read_header(s: &[u8]) -> Header
+#[tactic(auto, using(crate::proofs::HeaderLaws::header_laws))]
+pub fn read_header(s: &[u8]) -> Answer<Header>
     ensures result_value { header_answer result ≡ frame_header s.now }
-    ensures length_in_bounds { (result.length ≤ length s.now) × (result.length < 8192) }
+    ensures length_in_bounds { Lies s.now result }
 {
     if s.len() < 7 {
-        return refused_header(10);
+        return refused(10, 0);
     }
     let number = header_refusal(s);
     if number != 0 {
-        return refused_header(number);
+        return refused(number, 0);
     }
     judge_length(s)
 }

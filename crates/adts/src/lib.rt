@@ -1,7 +1,7 @@
 // ADTS files: a frame read, a frame unwrapped, a channel stream wrapped.
 #![tactic(auto)]
 
-ghost use Rattle.std.specs.Prelude.{◌≡◌, ◌≤◌, length};
+ghost use Rattle.std.specs.Prelude.{◌≡◌, ◌≤◌, ◌<◌, ◌*◌, length};
 ghost use Rattle.bits.specs.Packed.{bytes_for};
 ghost use Rattle.bits.specs.Payload.{whole};
 ghost use Rattle.channel.specs.Stream.{stream};
@@ -10,14 +10,15 @@ ghost use Rattle.adts.specs.Frame.{frame_header};
 ghost use Rattle.adts.specs.Wrapping.{frame_length};
 ghost use Rattle.adts.specs.Promise.{framed, fitted, unwrapped, wrapped_of, wrapped_bytes};
 ghost use Rattle.adts.specs.Promise.{ReadFramePromise, UnwrapPromise, WrapPromise};
-ghost use Rattle.adts.specs.InnerAnswers.{Used, first_stream};
+ghost use Rattle.adts.specs.InnerAnswers.{Used, first_stream, stream_of};
 
 use crate::block::{read_block, read_lone_block};
 use crate::cut::cut_out;
 use crate::header::{Header, read_header};
 use crate::wrapping::{frame_length, put_frame};
-use bits::Ended;
+use bits::{Bits, Ended};
 use channel::Reading;
+use channel::stream::read_payload;
 
 mod block;
 mod cut;
@@ -32,7 +33,8 @@ pub struct Framed {
     pub reading: Reading,
 }
 
-// What wrapping gave: a refusal's number and the bit at which the stream was refused, or 0 with the frame's length in bytes.
+// What wrapping gave: a refusal's number and the bit at which the stream was refused, or 0 with the frame's length in bytes. A record with
+// a number, as the promise is of it.
 #[derive(Clone, Copy)]
 pub struct Wrapped {
     pub number: u8,
@@ -41,13 +43,13 @@ pub struct Wrapped {
 }
 
 // The answer to a frame whose header is refused, or was not looked at.
-fn unframed(number: u8) -> Framed
-    ensures { result ≡ record { index = 0; length = 0; reading = refusal number 0 } }
+fn unframed(number: u8, place: usize) -> Framed
+    ensures { result ≡ record { index = 0; length = 0; reading = refusal number place } }
 {
     Framed {
         index: 0,
         length: 0,
-        reading: channel::refused(number, 0),
+        reading: channel::refused(number, place),
     }
 }
 
@@ -62,44 +64,73 @@ fn with_header(header: Header, reading: Reading) -> Framed
     }
 }
 
-// The frame at the front of a slice: its lines, scale factors and books are written to the front of the lent outputs where it is accepted.
-fn read_first(s: &[u8], lines: &mut [i16], factors: &mut [u8], books: &mut [u8]) -> Framed
-    requires { (1024 ≤ length lines.old) × (120 ≤ length factors.old) × (120 ≤ length books.old) }
-    ensures value { result ≡ framed (frame_header s.now)
-        (reading_of (first_stream s.now)) }
-    ensures lines_after { lines.new ≡ lines_after (first_stream s.now) lines.old }
-    ensures factors_after { factors.new ≡ factors_after (first_stream s.now) factors.old }
-    ensures books_after { books.new ≡ books_after (first_stream s.now) books.old }
+// The frame of a header at the front of a slice, as its bits.
+fn frame_bits<'a>(s: &'a [u8], header: Header) -> Bits<'a>
+    requires { (header.length ≤ length s.now) × (header.length < 8192) }
+    ensures { (result.bytes.now ≡ s.now) × (result.end ≡ 8 * header.length) }
 {
-    let header = read_header(s);
-    if header.number != 0 {
-        return unframed(header.number);
+    Bits {
+        bytes: s,
+        end: 8 * header.length,
     }
+}
+
+// The frame of a header at the front of a slice: its lines, scale factors and books are written to the front of the lent outputs where it
+// is accepted.
+fn read_after(
+    s: &[u8],
+    header: Header,
+    lines: &mut [i16],
+    factors: &mut [u8],
+    books: &mut [u8],
+) -> Reading
+    requires { (header.length ≤ length s.now)
+        × (header.length < 8192)
+        × (1024 ≤ length lines.old)
+        × (120 ≤ length factors.old)
+        × (120 ≤ length books.old) }
+    ensures value { result ≡ reading_of (stream_of header s.now) }
+    ensures lines_after { lines.new ≡ lines_after (stream_of header s.now) lines.old }
+    ensures factors_after { factors.new ≡ factors_after (stream_of header s.now) factors.old }
+    ensures books_after { books.new ≡ books_after (stream_of header s.now) books.old }
+{
     let mut band_books = [0u8; 120];
     let mut band_factors = [0u8; 120];
     let mut all_lines = [0i16; 1024];
-    let end = 8 * header.length;
     let read = read_block(
-        s,
-        end,
+        &frame_bits(s, header),
         header.index,
         &mut band_books,
         &mut band_factors,
         &mut all_lines,
     );
-    let ended = read.ended;
-    match ended {
-        Ended::At(bits) => {
-            channel::copy_lines(lines, all_lines);
-            channel::copy_bands(factors, band_factors);
-            channel::copy_bands(books, band_books);
-            with_header(header, channel::answer(read.head, bits))
+    match read {
+        Ok((head, bits)) => {
+            channel::put_front(lines, &all_lines);
+            channel::put_front(factors, &band_factors);
+            channel::put_front(books, &band_books);
+            channel::answer(head, bits)
         }
-        Ended::Refused(number, place) => with_header(header, channel::refused(number, place)),
+        Err(refusal) => channel::refused(refusal.number, refusal.place),
+    }
+}
+
+// The frame at the front of a slice: its lines, scale factors and books are written to the front of the lent outputs where it is accepted.
+fn read_first(s: &[u8], lines: &mut [i16], factors: &mut [u8], books: &mut [u8]) -> Framed
+    requires { (1024 ≤ length lines.old) × (120 ≤ length factors.old) × (120 ≤ length books.old) }
+    ensures value { result ≡ framed (frame_header s.now) (reading_of (first_stream s.now)) }
+    ensures lines_after { lines.new ≡ lines_after (first_stream s.now) lines.old }
+    ensures factors_after { factors.new ≡ factors_after (first_stream s.now) factors.old }
+    ensures books_after { books.new ≡ books_after (first_stream s.now) books.old }
+{
+    match read_header(s) {
+        Ok((header, _)) => with_header(header, read_after(s, header, lines, factors, books)),
+        Err(refusal) => unframed(refusal.number, refusal.place),
     }
 }
 
 // The frame at a byte of a file: its lines, scale factors and books are written to the front of the lent outputs where it is accepted.
+#[tactic(auto, using(crate::proofs::PromiseLaws::outputs_laws), unfolding(crate::specs::Promise::header_at))]
 pub fn read_frame(
     file: &[u8],
     start: usize,
@@ -116,12 +147,32 @@ pub fn read_frame(
         result (record { lines = lines.new; factors = factors.new; books = books.new }) }
 {
     if file.len() < start {
-        return unframed(1);
+        return unframed(1, 0);
     }
     if !channel::outputs_fit(lines.len(), factors.len(), books.len()) {
-        return unframed(2);
+        return unframed(2, 0);
     }
     read_first(&file[start..], lines, factors, books)
+}
+
+// The frame of a header at the front of a slice: the bits that its stream used are put at the front of a lent buffer where it is accepted
+// and they fit.
+#[tactic(auto, using(crate::proofs::BlockLaws::short_laws))]
+fn unwrap_after(s: &[u8], header: Header, out: &mut [u8]) -> Reading
+    requires { (header.length ≤ length s.now) × (header.length < 8192) }
+    ensures value { result ≡ reading_of (fitted bytes_for (length out.old) (stream_of header s.now)) }
+    ensures out_after { out.new ≡ unwrapped s.now (fitted bytes_for (length out.old) (stream_of header s.now)) out.old }
+{
+    match read_lone_block(&frame_bits(s, header), header.index) {
+        Ok((head, bits)) => {
+            if out.len() < (bits + 7) / 8 {
+                return channel::refused(2, 0);
+            }
+            cut_out(out, s, 63, bits);
+            channel::answer(head, bits)
+        }
+        Err(refusal) => channel::refused(refusal.number, refusal.place),
+    }
 }
 
 // The frame at the front of a slice: the bits that its stream used are put at the front of a lent buffer where it is accepted and they
@@ -132,30 +183,19 @@ fn unwrap_first(s: &[u8], out: &mut [u8]) -> Framed
     ensures out_after { out.new ≡ unwrapped s.now
         (fitted bytes_for (length out.old) (first_stream s.now)) out.old }
 {
-    let header = read_header(s);
-    if header.number != 0 {
-        return unframed(header.number);
-    }
-    let read = read_lone_block(s, 8 * header.length, header.index);
-    let ended = read.ended;
-    match ended {
-        Ended::At(bits) => {
-            if out.len() < (bits + 7) / 8 {
-                return with_header(header, channel::refused(2, 0));
-            }
-            cut_out(out, s, 63, bits);
-            with_header(header, channel::answer(read.head, bits))
-        }
-        Ended::Refused(number, place) => with_header(header, channel::refused(number, place)),
+    match read_header(s) {
+        Ok((header, _)) => with_header(header, unwrap_after(s, header, out)),
+        Err(refusal) => unframed(refusal.number, refusal.place),
     }
 }
 
 // The frame at a byte of a file: the bits that its stream used are put at the front of a lent buffer where it is accepted and they fit.
+#[tactic(auto, using(crate::proofs::PromiseLaws::rest_laws), unfolding(crate::specs::Promise::header_at))]
 pub fn unwrap(file: &[u8], start: usize, out: &mut [u8]) -> Framed
     ensures { UnwrapPromise file.now start out.old result out.new }
 {
     if file.len() < start {
-        return unframed(1);
+        return unframed(1, 0);
     }
     unwrap_first(&file[start..], out)
 }
@@ -178,19 +218,19 @@ fn bits_used(s: &[u8], index: u8) -> Ended
     let mut books = [0u8; 120];
     let mut factors = [0u8; 120];
     let mut lines = [0i16; 1024];
-    let read = channel::stream::read_payload(s, index, &mut books, &mut factors, &mut lines);
-    read.ended
+    let (_, bits) = read_payload(s, index, &mut books, &mut factors, &mut lines)?;
+    Ok(bits)
 }
 
 // The channel stream in a slice, wrapped at the front of a lent buffer where it is accepted and its frame fits.
+#[tactic(auto, using(crate::proofs::PromiseLaws::short_laws))]
 fn wrap_slice(s: &[u8], index: u8, out: &mut [u8]) -> Wrapped
     ensures value { result ≡ wrapped_of (fitted frame_length (length out.old) (whole (stream index) s.now)) }
     ensures out_after { out.new ≡ wrapped_bytes index s.now
         (fitted frame_length (length out.old) (whole (stream index) s.now)) out.old }
 {
-    let used = bits_used(s, index);
-    match used {
-        Ended::At(bits) => {
+    match bits_used(s, index) {
+        Ok(bits) => {
             let length = frame_length(bits);
             if out.len() < length {
                 return unwrappable(2, 0);
@@ -202,12 +242,13 @@ fn wrap_slice(s: &[u8], index: u8, out: &mut [u8]) -> Wrapped
                 length,
             }
         }
-        Ended::Refused(number, place) => unwrappable(number, place),
+        Err(refusal) => unwrappable(refusal.number, refusal.place),
     }
 }
 
 // The channel stream in the bytes from start to end of a buffer, for a sampling index, wrapped as one frame at the front of a lent
 // buffer where it is accepted and its frame fits.
+#[tactic(auto, using(crate::proofs::PromiseLaws::range_laws), unfolding(crate::specs::Promise::wrappable))]
 pub fn wrap(buf: &[u8], start: usize, end: usize, index: u8, out: &mut [u8]) -> Wrapped
     ensures { WrapPromise
         (record {

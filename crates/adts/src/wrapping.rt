@@ -8,6 +8,7 @@ use crate::cut::{clear, put_run};
 use bits::write::put_bits;
 
 // The first fields of a header, up to the profile.
+#[tactic(auto, unfolding(bits::specs::Packed::put_all, crate::specs::Wrapping::spell_kind))]
 fn put_kind(out: &mut [u8])
     requires { 7 ≤ length out.old }
     ensures { out.new ≡ put_all out.old 0 spell_kind }
@@ -20,6 +21,7 @@ fn put_kind(out: &mut [u8])
 }
 
 // The fields from the sampling index to the end of the fixed half.
+#[tactic(auto, unfolding(bits::specs::Packed::put_all, crate::specs::Wrapping::spell_voice))]
 fn put_voice(out: &mut [u8], index: u8)
     requires { 7 ≤ length out.old }
     ensures { out.new ≡ put_all out.old 18 (spell_voice index) }
@@ -32,6 +34,7 @@ fn put_voice(out: &mut [u8], index: u8)
 }
 
 // The other half, with the frame's length in bytes.
+#[tactic(auto, unfolding(bits::specs::Packed::put_all, crate::specs::Wrapping::spell_variable_half))]
 fn put_variable_half(out: &mut [u8], size: u32)
     requires { 7 ≤ length out.old }
     ensures { out.new ≡ put_all out.old 28 (spell_variable_half size) }
@@ -44,6 +47,7 @@ fn put_variable_half(out: &mut [u8], size: u32)
 }
 
 // The raw block of the stream that is the first n bits of a slice.
+#[tactic(auto, using(crate::proofs::WrappingLaws::run_laws), unfolding(bits::specs::Packed::put_all, crate::specs::Wrapping::spell_block))]
 fn put_block(out: &mut [u8], s: &[u8], n: usize)
     requires { (66 + n ≤ 8 * length out.old) × (n < 2 ^ 31) }
     ensures { out.new ≡ put_all out.old 56 (spell_block s.now n) }
@@ -63,6 +67,7 @@ pub fn frame_length(n: usize) -> usize
 }
 
 // The frame of the stream that is the first n bits of a slice, at the front of a lent buffer.
+#[tactic(auto, using(crate::proofs::WrappingLaws::frame_laws), unfolding(crate::specs::Wrapping::wrapping))]
 pub fn put_frame(out: &mut [u8], s: &[u8], index: u8, n: usize)
     requires { (frame_length n ≤ length out.old) × (n < 2 ^ 31) }
     ensures { out.new ≡ over out.old 0 (wrapping index s.now n) }

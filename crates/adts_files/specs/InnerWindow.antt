@@ -6,8 +6,7 @@ abbrev pub Kept : ℕ → ℕ → List ℕ → ℕ → ℕ → List ℕ → Type
 Kept start end old start' end' new =
     (end - start ≤ end' - start') × (take (end - start) (drop start' new) ≡ take (end - start) (drop start old))
 
--- as many bytes are there as a frame takes at most, where the input has not ended and can be read
-abbrev pub Enough : Bool → Bool → ℕ → Type 0
-Enough false true there = 8191 ≤ there
-Enough true readable there = Unit {0}
-Enough false false there = Unit {0}
+-- as many bytes are there as a frame takes at most, where the input has not ended
+abbrev pub Enough : Bool → ℕ → Type 0
+Enough false there = 8191 ≤ there
+Enough true there = Unit {0}

@@ -1,25 +1,23 @@
 // A window over a file on standard input. A frame has at most 8,191 bytes, so with as many in the window, or all that are left, a frame is
 // read as in the whole file.
-ghost use Rattle.std.specs.Prelude.{◌≡◌, true, false, ◌+◌, ◌-◌, ◌≤◌, length, take, drop};
+ghost use Rattle.std.specs.Prelude.{◌≡◌, ◌+◌, ◌-◌, ◌≤◌, length, take, drop, IfOk, OnErr};
 ghost use Rattle.adts_files.specs.InnerWindow.{Kept, Enough};
 
 use std::io::Read;
 
-// The bytes of a lent buffer that were read and are not listed yet; whether the input has ended, and whether every read succeeded.
+// The bytes of a lent buffer that were read and are not listed yet, and whether the input has ended.
 #[derive(Clone, Copy)]
 pub struct Window {
     pub start: usize,
     pub end: usize,
     pub ended: bool,
-    pub readable: bool,
 }
 
-// How far a lent buffer is filled; whether the input has ended, and whether every read succeeded.
+// How far a lent buffer is filled, and whether the input has ended.
 #[derive(Clone, Copy)]
-struct Input {
+struct Filled {
     end: usize,
     ended: bool,
-    readable: bool,
 }
 
 // The window before anything is read.
@@ -30,7 +28,6 @@ pub fn empty() -> Window
         start: 0,
         end: 0,
         ended: false,
-        readable: true,
     }
 }
 
@@ -39,82 +36,60 @@ fn move_front(buffer: &mut [u8], start: usize, end: usize)
     requires { (start ≤ end) × (end ≤ length buffer.old) }
     ensures { take (end - start) buffer.new ≡ take (end - start) (drop start buffer.old) }
 {
-    let n = end - start;
-    let mut i = 0;
-    while i < n {
-        buffer[i] = buffer[start + i];
-        i += 1;
-    }
+    buffer.copy_within(start..end, 0);
 }
 
-// Standard input is read after the first bytes, until a frame's most are there, the input ends or a read fails.
-fn read_on(input: &mut impl Read, buffer: &mut [u8], first: usize) -> Input
+// Standard input is read after the first bytes, until a frame's most are there or the input ends.
+fn read_on(input: &mut impl Read, buffer: &mut [u8], first: usize) -> std::io::Result<Filled>
     requires { (first ≤ 8191) × (8191 ≤ length buffer.old) }
-    ensures { (first ≤ result.end) × (result.end ≤ length buffer.new)
-        × (take first buffer.new ≡ take first buffer.old) × Enough result.ended result.readable result.end }
+    ensures kept { take first buffer.new ≡ take first buffer.old }
+    ensures ok { IfOk result (λ read. (first ≤ read.end) × (read.end ≤ length buffer.new) × Enough read.ended read.end) }
 {
     let mut end = first;
+    // A `while`, as a read brings as many bytes as there are.
     while end < 8191 {
-        let got = input.read(&mut buffer[end..]);
-        let Ok(more) = got else {
-            return Input {
-                end,
-                ended: false,
-                readable: false,
-            };
-        };
+        let more = input.read(&mut buffer[end..])?;
         if more == 0 {
-            return Input {
-                end,
-                ended: true,
-                readable: true,
-            };
+            return Ok(Filled { end, ended: true });
         }
         end += more;
     }
-    Input {
-        end,
-        ended: false,
-        readable: true,
-    }
+    Ok(Filled { end, ended: false })
 }
 
-// The window with a frame's most in it, or all that is left: what is in it stays, and what comes next is read behind it.
-pub fn refill(input: &mut impl Read, buffer: &mut [u8], w: Window) -> Window
+// The window with a frame's most in it, or all that is left: what is in it stays, and what comes next is read behind it. After a read that
+// fails it stands at the front.
+pub fn refill(input: &mut impl Read, buffer: &mut [u8], w: Window) -> std::io::Result<Window>
     requires { (w.start ≤ w.end) × (w.end ≤ length buffer.old) × (8191 ≤ length buffer.old) }
-    ensures { (result.start ≤ result.end) × (result.end ≤ length buffer.new)
-        × Kept w.start w.end buffer.old result.start result.end buffer.new
-        × Enough result.ended result.readable (result.end - result.start) }
+    ensures ok { IfOk result (λ next. (next.start ≤ next.end) × (next.end ≤ length buffer.new)
+        × Kept w.start w.end buffer.old next.start next.end buffer.new
+        × Enough next.ended (next.end - next.start)) }
+    ensures err { OnErr result (take (w.end - w.start) buffer.new ≡ take (w.end - w.start) (drop w.start buffer.old)) }
 {
     if w.ended {
-        return w;
-    }
-    if !w.readable {
-        return w;
+        return Ok(w);
     }
     let enough = 8191 <= w.end - w.start;
     if enough {
-        return w;
+        return Ok(w);
     }
     move_front(buffer, w.start, w.end);
-    let read = read_on(input, buffer, w.end - w.start);
-    Window {
+    let read = read_on(input, buffer, w.end - w.start)?;
+    Ok(Window {
         start: 0,
         end: read.end,
         ended: read.ended,
-        readable: read.readable,
-    }
+    })
 }
 
 // The window after the first bytes of it.
 pub fn passed(w: Window, n: usize) -> Window
     requires { w.start + n ≤ w.end }
-    ensures { (result.start ≡ w.start + n) × (result.end ≡ w.end) × (result.ended ≡ w.ended) × (result.readable ≡ w.readable) }
+    ensures { (result.start ≡ w.start + n) × (result.end ≡ w.end) × (result.ended ≡ w.ended) }
 {
     Window {
         start: w.start + n,
         end: w.end,
         ended: w.ended,
-        readable: w.readable,
     }
 }

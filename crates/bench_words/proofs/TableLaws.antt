@@ -1,7 +1,8 @@
 -- The scan may read any run of the lists of all words and lengths, and a table is the run between its place and the next.
 -- Assumes nothing.
 use Prim.Native.Nat.{ℕ, ◌+◌, ◌-◌, ◌<◌, ◌≤◌}
-use mathlib.Core.Path.{◌≡◌, refl}
+use mathlib.Core.Path.{◌≡◌, refl, ◌∙◌, ap}
+use mathlib.Core.List.{List}
 use mathlib.Core.Bool.{Bool, ◌&&◌}
 use native.Mathlib.Omega.{arith}
 use lib.Dec.{T, eqb, eqb→eq}
@@ -14,7 +15,7 @@ use Rattle.tables.specs.GeneratedNames.{table_at}
 use Rattle.tables.specs.Tables.{run}
 use Rattle.tables.proofs.PlaceLaws.{place_in}
 use Rattle.tables.proofs.RunLaws.{codes-count, lens-count, run_length, run_sizes}
-use Rattle.bench_words.specs.InnerTable.{Usable, places}
+use Rattle.bench_words.specs.InnerTable.{Usable, Scanned, places}
 
 pub run-usable : (first count : ℕ) → first + count ≤ 1604 → Usable (run all_codes first count) (run all_lens first count)
 run-usable first count h =
@@ -49,3 +50,10 @@ place_is t h =
     let f : get_or places (t + 1) 0 ≡ (table_at t).first + (table_at t).count = eqb→eq _ _ (and_right a b p) in
     let g = place_in t in
     (e, omega arith, omega arith, omega arith)
+
+-- where a table stands in the lists of all words
+pub stands : {codes lens at : List ℕ} → Scanned codes lens at → (t : ℕ) → t < 22
+    → (length at ≡ 23) × (length codes ≡ 1604) × (length lens ≡ 1604) × (get_or at t 0 ≤ get_or at (t + 1) 0) × (get_or at (t + 1) 0 ≤ 1604)
+stands s t h =
+    let i = place_is t h in
+    (ap length s.2 ∙ places_count, ap length s.0 ∙ codes-count, ap length s.1 ∙ lens-count, rw s.2 i.2, rw s.2 i.3)

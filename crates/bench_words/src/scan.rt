@@ -1,12 +1,12 @@
 // The old reading of a word: a scan of its table, entry by entry, which the bench times beside the lookup.
-ghost use Rattle.std.specs.Prelude.{◌≡◌, ◌*◌, ◌≤◌, ◌-◌, min, length};
+ghost use Rattle.std.specs.Prelude.{◌≡◌, ◌<◌, ◌≤◌, ◌+◌, ◌-◌, ◌^◌, min};
 ghost use Rattle.bits.specs.Bits.{bits_from};
-ghost use Rattle.bits.specs.InnerAnswers.{field_answer};
+ghost use Rattle.bits.specs.InnerAnswers.{answer_of, reads};
 ghost use Rattle.words.specs.Words.{word};
 ghost use Rattle.bench_words.specs.InnerComparison.{compared};
 ghost use Rattle.bench_words.specs.InnerTable.{Usable};
 
-use bits::Field;
+use bits::{Answer, Bits, bits_at, refused};
 
 // What a word is to the first bits at a place: it is their prefix, they are its proper prefix, or neither.
 #[derive(Clone, Copy)]
@@ -24,22 +24,14 @@ struct Window {
 }
 
 // The bits from a place up to the end, the first 20 of them at most.
-fn first_bits(s: &[u8], at: usize, end: usize) -> Window
-    ensures { (result.count ≡ min 20 (end - at)) × (result.value ≡ bits_from s.now at result.count) }
+fn first_bits(s: &Bits, at: usize) -> Window
+    ensures { (result.count ≡ min 20 (s.now.end - at)) × (result.value ≡ bits_from s.now.bytes.now at result.count)
+        × (at + result.count < 2 ^ 64) }
 {
-    if end < at {
-        return Window { count: 0, value: 0 };
-    }
-    let have = end - at;
-    if have < 20 {
-        return Window {
-            count: have,
-            value: bits::bits_at(s, at, have),
-        };
-    }
+    let count = s.end.saturating_sub(at).min(20);
     Window {
-        count: 20,
-        value: bits::bits_at(s, at, 20),
+        count,
+        value: bits_at(s.bytes, at, count),
     }
 }
 
@@ -63,25 +55,23 @@ fn compare(w: Window, c: u32, l: u8) -> Comparison
 }
 
 // The entry whose word stands at a place; 10 where the bits up to the end are the start of some word, 11 where they are of none.
-pub fn read_word(s: &[u8], at: usize, end: usize, codes: &[u32], lens: &[u8]) -> Field
-    requires { (end ≤ 8 * length s.now) × Usable codes.now lens.now }
-    ensures { field_answer result ≡ word codes.now lens.now s.now at end }
+pub fn read_word(s: &Bits, at: usize, codes: &[u32], lens: &[u8]) -> Answer<u32>
+    requires { Usable codes.now lens.now }
+    ensures { answer_of result ≡ reads (word codes.now lens.now) s.now at }
 {
-    let w = first_bits(s, at, end);
+    let w = first_bits(s, at);
     let mut short = false;
-    let mut i = 0;
-    while i < lens.len() {
+    for i in 0..lens.len() {
         match compare(w, codes[i], lens[i]) {
-            Comparison::Fits => return Field::Got(i as u32, at + lens[i] as usize),
+            Comparison::Fits => return Ok((i as u32, at + lens[i] as usize)),
             Comparison::Cut => {
                 short = true;
             }
             Comparison::Neither => {}
         }
-        i += 1;
     }
     if short {
-        return Field::Refused(10, at);
+        return refused(10, at);
     }
-    Field::Refused(11, at)
+    refused(11, at)
 }

@@ -3,10 +3,10 @@
 
 ghost use Rattle.std.specs.Prelude.{◌≡◌, ◌<◌, ◌≤◌, ◌*◌, length};
 ghost use Rattle.bits.specs.Field.{field};
-ghost use Rattle.bits.specs.InnerAnswers.{field_answer};
+ghost use Rattle.bits.specs.InnerAnswers.{answer_of, reads};
 ghost use Rattle.bit_reader.specs.Took.{last_place, HoldPromise, TookAtPromise, TakePromise};
 
-use bits::Field;
+use bits::{Answer, Bits, bits_at};
 
 // The payload, and the place of the next bit.
 #[derive(Clone, Copy)]
@@ -15,7 +15,8 @@ pub struct BitReader<'a> {
     pub at: usize,
 }
 
-// A field that was taken: number 0, its value and the next place; or a refusal's number, 0 and the place as it was.
+// A field that was taken: number 0, its value and the next place; or a refusal's number, 0 and the place as it was. A
+// record with a number, as the promise's `took_at` is of it.
 #[derive(Clone, Copy)]
 pub struct Took {
     pub number: u8,
@@ -44,46 +45,49 @@ fn refused(number: u8, at: usize) -> Took
     }
 }
 
-// A field of 21 to 32 bits, as two plain ones: its first bits, and its last 20; where either isn't there, neither is taken.
-fn wide_field(src: &[u8], at: usize, end: usize, n: usize) -> Field
-    requires { (end ≤ 8 * length src.now) × (20 < n) × (n ≤ 32) }
-    ensures { field_answer result ≡ field n src.now at end }
+// A field of 21 to 32 bits: its first bits, and its last 20.
+fn wide_field(s: &Bits, at: usize, n: usize) -> Answer<u32>
+    requires { (20 < n) × (n ≤ 32) }
+    ensures { answer_of result ≡ reads (field n) s.now at }
 {
-    let Field::Got(high, middle) = bits::read_field(src, at, end, n - 20) else {
-        return Field::Refused(10, at);
-    };
-    let Field::Got(low, next) = bits::read_field(src, middle, end, 20) else {
-        return Field::Refused(10, at);
-    };
-    Field::Got(high * 1048576 + low, next)
+    if s.end.saturating_sub(at) < n {
+        return bits::refused(10, at);
+    }
+    let high = bits_at(s.bytes, at, n - 20);
+    let low = bits_at(s.bytes, at + n - 20, 20);
+    Ok((high * 1048576 + low, at + n))
 }
 
 // A field of at most 32 bits: a plain one up to 20 bits, else a wide one.
-fn any_field(src: &[u8], at: usize, end: usize, n: usize) -> Field
-    requires { (end ≤ 8 * length src.now) × (n ≤ 32) }
-    ensures { field_answer result ≡ field n src.now at end }
+fn any_field(s: &Bits, at: usize, n: usize) -> Answer<u32>
+    requires { n ≤ 32 }
+    ensures { answer_of result ≡ reads (field n) s.now at }
 {
     if 20 < n {
-        return wide_field(src, at, end, n);
+        return wide_field(s, at, n);
     }
-    bits::read_field(src, at, end, n)
+    s.field(at, n)
 }
 
 // The field of n bits at a place of a payload.
+#[tactic(auto, unfolding(crate::specs::Took::took_at))]
 pub fn took_at(src: &[u8], at: usize, n: usize) -> Took
     ensures { TookAtPromise src.now at n result }
 {
     if 32 < n {
         return refused(10, at);
     }
-    let f = any_field(src, at, last_place(src), n);
-    match f {
-        Field::Got(value, next) => Took {
+    let s = Bits {
+        bytes: src,
+        end: last_place(src),
+    };
+    match any_field(&s, at, n) {
+        Ok((value, next)) => Took {
             number: 0,
             value,
             next,
         },
-        Field::Refused(number, _) => refused(number, at),
+        Err(refusal) => refused(refusal.number, at),
     }
 }
 

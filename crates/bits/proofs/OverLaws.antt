@@ -15,6 +15,12 @@ pub pasted : {A : Type 0} (s : List A) (at : ℕ) (xs : List A) → paste s at x
 unfolding over
 pasted s at xs = rw (take_all (length xs) xs (omega arith))
 
+-- what is left and right of it stays
+pub over_parts : {A : Type 0} (s : List A) (at : ℕ) (xs : List A) → over s at xs ≡ take at s ++ (xs ++ drop (length xs) (drop at s))
+unfolding over
+over_parts {A} s at xs =
+    append_assoc (take at s) xs (drop (at + length xs) s) ∙ ap (λ (z : List A). take at s ++ (xs ++ z)) (sym (drop-drop (length xs) at s))
+
 pub over-length : {A : Type 0} (s : List A) (at : ℕ) (xs : List A) → at + length xs ≤ length s → length (over s at xs) ≡ length s
 over-length s at xs h = ap length (sym (pasted s at xs)) ∙ length-paste s at xs (length xs) h (omega arith)
 

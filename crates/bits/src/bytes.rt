@@ -1,4 +1,4 @@
-// Numbers as bytes, and bytes put into a lent buffer.
+// Numbers as bytes, and values put into a lent buffer.
 ghost use Rattle.std.specs.Prelude.{◌≡◌, ◌+◌, ◌≤◌, length};
 ghost use Rattle.bits.specs.Bytes.{byte_of, flag_byte, word_of, over};
 
@@ -45,14 +45,13 @@ pub fn word_of(x: usize) -> [u8; 4]
     ]
 }
 
-// Bytes are put at a place; the other bytes are as they were.
-pub fn put(out: &mut [u8], at: usize, bytes: &[u8])
-    requires { at + length bytes.now ≤ length out.old }
-    ensures { out.new ≡ over out.old at bytes.now }
+// Values are put at a place; the others are as they were. One by one: the library's copy answers a slice, whose width is a processor's, and
+// the archive for C is to be the same for all (`tools/portable`).
+pub fn put<T: Copy>(out: &mut [T], at: usize, values: &[T])
+    requires { at + length values.now ≤ length out.old }
+    ensures { out.new ≡ over out.old at values.now }
 {
-    let mut i = 0;
-    while i < bytes.len() {
-        out[at + i] = bytes[i];
-        i += 1;
+    for i in 0..values.len() {
+        out[at + i] = values[i];
     }
 }

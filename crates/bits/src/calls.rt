@@ -4,7 +4,7 @@ ghost use Rattle.bits.specs.Calls.{first_number, call_tests, returned};
 ghost use Rattle.bits.specs.Payload.{in_buffer};
 ghost use Rattle.bits.specs.Sampling.{known_index};
 
-// What is judged of a range and of room for an answer: a refusal's number, or 0.
+// What is judged of a range and of room for an answer: a refusal's number, or 0. A number, as C is handed it.
 pub fn call_refusal(size: usize, start: usize, end: usize, need: usize, room: usize) -> u32
     ensures { result ≡ first_number (call_tests (in_buffer start end size) need room) }
 {

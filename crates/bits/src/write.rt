@@ -32,6 +32,7 @@ pub fn put_bits(out: &mut [u8], at: usize, v: u32, n: usize)
 {
     let mut place = at;
     let mut left = n;
+    // A `while`, as a turn puts as many bits as stand in one byte.
     while left > 0 {
         let m = bits_in_byte(place, left);
         let i = place / 8;

@@ -25,11 +25,9 @@ fn put_parts(answer: &mut [u8], image: &[u8], count: usize)
         × ((header_of image.now).number ≡ 0) × ((header_of image.now).count ≡ count) }
     ensures { answer.new ≡ over answer.old 0 (parts_bytes image.now count) }
 {
-    let mut k = 0;
-    while k < count {
+    for k in 0..count {
         let part = image::known_part(image, k);
         put_words(answer, 8 * k, part.start, part.end);
-        k += 1;
     }
 }
 

@@ -14,10 +14,9 @@ pub fn row_at(s: &[u8], at: usize) -> Row
     requires { at + 35 ≤ length s.now }
     ensures { result ≡ row_at s.now at }
 {
-    let indices = indices::indices_at(s, at + 1);
     Row {
         time: bytes::wide(s[at]),
-        indices,
+        indices: indices::indices_at(s, at + 1),
     }
 }
 
@@ -215,14 +214,10 @@ fn put_envelope(out: &mut [u8], at: usize, iid: Row, icc: Row, phases: Phases)
     ensures { (out.new ≡ over out.old at (envelope_bytes iid icc phases))
         × (length (envelope_bytes iid icc phases) ≡ 140) }
 {
-    let levels = iid.indices;
-    indices::put_numbered(out, at, iid.time, levels);
-    let coherences = icc.indices;
-    indices::put_numbered(out, at + 35, icc.time, coherences);
-    let ipd = phases.ipd.indices;
-    indices::put_numbered(out, at + 70, phases.ipd.time, ipd);
-    let opd = phases.opd.indices;
-    indices::put_numbered(out, at + 105, phases.opd.time, opd);
+    indices::put_numbered(out, at, iid.time, iid.indices);
+    indices::put_numbered(out, at + 35, icc.time, icc.indices);
+    indices::put_numbered(out, at + 70, phases.ipd.time, phases.ipd.indices);
+    indices::put_numbered(out, at + 105, phases.opd.time, phases.opd.indices);
 }
 
 // The four envelopes are put where they stand.
@@ -231,21 +226,23 @@ fn put_envelopes(out: &mut [u8], iid: [Row; 4], icc: [Row; 4], phases: [Phases; 
     ensures { (out.new ≡ over out.old 22 (envelopes_bytes iid icc phases 4))
         × (length (envelopes_bytes iid icc phases 4) ≡ 560) }
 {
-    let mut e = 0;
-    while e < 4 {
+    for e in 0..4 {
         put_envelope(out, 22 + 140 * e, iid[e], icc[e], phases[e]);
-        e += 1;
     }
 }
 
-// An answer is put at the front of a buffer: the bits used, and the contents.
+// An answer is put at the front of a buffer: the bits used, and the contents. A call of its own, so that it takes stack only while it
+// puts.
+#[inline(never)]
 pub fn put_answer(out: &mut [u8], bits: usize, contents: Contents)
     requires { 582 ≤ length out.old }
     ensures { out.new ≡ over out.old 0 (answer_bytes bits contents) }
 {
     put_head(out, bits, contents);
-    let iid = contents.iid;
-    let icc = contents.icc;
-    let phases = contents.extension.part.body.phases;
-    put_envelopes(out, iid, icc, phases);
+    put_envelopes(
+        out,
+        contents.iid,
+        contents.icc,
+        contents.extension.part.body.phases,
+    );
 }

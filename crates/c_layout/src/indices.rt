@@ -35,10 +35,8 @@ pub fn indices_at(s: &[u8], at: usize) -> [i8; 34]
     ensures { result ≡ indices_at s.now at }
 {
     let mut out = [0i8; 34];
-    let mut i = 0;
-    while i < 34 {
+    for i in 0..34 {
         out[i] = index_of(s[at + i]);
-        i += 1;
     }
     out
 }
@@ -49,9 +47,7 @@ pub fn put_numbered(out: &mut [u8], at: usize, n: u32, indices: [i8; 34])
     ensures { (out.new ≡ over out.old at (numbered n indices)) × (length (numbered n indices) ≡ 35) }
 {
     out[at] = byte_of(n);
-    let mut i = 0;
-    while i < 34 {
-        out[at + 1 + i] = index_byte(indices[i]);
-        i += 1;
+    for (i, x) in indices.iter().enumerate() {
+        out[at + 1 + i] = index_byte(*x);
     }
 }

@@ -51,16 +51,7 @@ pub fn state_at(s: &[u8]) -> State
 fn are_flags(a: u8, b: u8, c: u8, d: u8) -> bool
     ensures { result ≡ is_flag a && is_flag b && is_flag c && is_flag d }
 {
-    if 1 < a {
-        return false;
-    }
-    if 1 < b {
-        return false;
-    }
-    if 1 < c {
-        return false;
-    }
-    d <= 1
+    a <= 1 && b <= 1 && c <= 1 && d <= 1
 }
 
 // Whether bytes stand for a sound state.
@@ -98,12 +89,8 @@ pub fn put_state(out: &mut [u8], state: State)
 {
     let head = head_of(state);
     bytes::put(out, 0, &head);
-    let iid = state.iid.indices;
-    indices::put_numbered(out, 6, state.iid.mode, iid);
-    let icc = state.icc.indices;
-    indices::put_numbered(out, 41, state.icc.mode, icc);
-    let ipd = state.ipd.indices;
-    indices::put_numbered(out, 76, state.ipd.mode, ipd);
-    let opd = state.opd.indices;
-    indices::put_numbered(out, 111, state.opd.mode, opd);
+    indices::put_numbered(out, 6, state.iid.mode, state.iid.indices);
+    indices::put_numbered(out, 41, state.icc.mode, state.icc.indices);
+    indices::put_numbered(out, 76, state.ipd.mode, state.ipd.indices);
+    indices::put_numbered(out, 111, state.opd.mode, state.opd.indices);
 }

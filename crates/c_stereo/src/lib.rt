@@ -34,7 +34,7 @@ pub fn oarcradler_report_missing(state: &mut [u8]) -> u32
     0
 }
 
-// What is judged before any bit of a stereo payload: a refusal's number, or 0.
+// What is judged before any bit of a stereo payload: a refusal's number, or 0, as C is handed it.
 fn stereo_refusal(state: &[u8], size: usize, start: usize, end: usize, room: usize) -> u32
     ensures { result ≡ first_number (stereo_tests (in_buffer start end size) room state.now) }
 {

@@ -9,7 +9,7 @@ use bits::bytes;
 use c_layout::{answers, states};
 use stereo_writer::writing;
 
-// What is judged before contents are written: a refusal's number, or 0.
+// What is judged before contents are written: a refusal's number, or 0, as C is handed it.
 fn write_refusal(state: &[u8], size: usize, room: usize) -> u32
     ensures { result ≡ first_number (write_tests state.now size room) }
 {

@@ -4,31 +4,22 @@ use Prim.Native.Nat.{ℕ, ◌*◌}
 use mathlib.Core.Path.{◌≡◌, refl}
 use mathlib.Core.List.{List}
 use lib.IntN.{ℤ, pos}
+use Rattle.std.proofs.Common.{Result, Ok, Err}
 use lib.ListN.{length, replicate}
-use Rattle.bits.specs.Reader.{Answer, got, give, after}
+use Rattle.bits.specs.Reader.{Answer, got}
 use Rattle.bits.specs.InnerAnswers.{ended_answer}
-use Rattle.bits.specs.declared.Ended.{Ended}
-use Rattle.bits.specs.declared.Ended.TheVariants.{At, Refused}
+use Rattle.bits.specs.declared.Refusal.{Refusal}
 use Rattle.channel_bands.specs.Bands.{long34, short34, long67, short67}
 use Rattle.channel_bands.specs.InnerBands.{all_edges}
 use Rattle.channel_lines.specs.Spectrum.{group_lines, spectrum}
-use Rattle.channel.specs.InnerAnswers.{HoldsLines, HoldsStream}
+use Rattle.channel.specs.InnerAnswers.{HoldsLines, HoldsRest}
 use Rattle.channel_side.specs.declared.window.Window.{Window}
 use Rattle.channel_side.specs.Window.{is_short, max_sfb, groups}
 use Rattle.channel_side.specs.Sections.{group_books, width_of, sections}
 use Rattle.channel_side.specs.Factors.{first_factors, scale_factors}
 use Rattle.channel_side.specs.declared.pulses.Pulses.{Pulses}
 use Rattle.channel_side.specs.Pulses.{pulses, apply_pulses}
-use Rattle.channel.specs.Stream.{Head, head_of, unpulsed, coded_of, stream_with, stream_after, stream}
-
-abbrev pub head_with : ℕ → Window → Head
-head_with gain w = record { gain = gain; window = w }
-
--- what was read, put in what holds it
-pub ended_in : {A B : Type 0} (f : A → B) (e : Ended) (a : A) (s : List ℕ) (end : ℕ) {x : Answer A} → ended_answer e a ≡ x
-    → ended_answer e (f a) ≡ after x (λ y. give (f y)) s end
-ended_in f (At next) a s end q = rw (← q)
-ended_in f (Refused n place) a s end q = rw (← q)
+use Rattle.channel.specs.Stream.{Head, unpulsed, coded_of, stream_with, stream_after}
 
 -- the spectrum, as the code reads it with lent bands and lines
 pub spectrum-is : {x : Answer (List ℤ)} (edges bs : List ℕ) (n : ℕ) (books gs : List ℕ) (lines : List ℤ) (s : List ℕ) (at end : ℕ)
@@ -39,12 +30,13 @@ spectrum-is edges bs n books gs lines s at end b l e = rw (← b, ← l) e
 
 -- the pulses on the lines that were read
 pub coded-is : (index : ℕ) (w : Window) (books s : List ℕ) (at end : ℕ) {ps : Pulses} {a₁ : ℕ} {before : List ℤ} {a₂ : ℕ}
-    → pulses index (is_short w) s at end ≡ got ps a₁ → unpulsed index w books s a₁ end ≡ got before a₂ → (r : Ended) (lines : List ℤ)
+    → pulses index (is_short w) s at end ≡ got ps a₁ → unpulsed index w books s a₁ end ≡ got before a₂
+    → (r : Result ℕ Refusal) (lines : List ℤ)
     → ended_answer r lines ≡ apply_pulses ps before s a₂ end → HoldsLines r lines (coded_of index w books s at end)
 unfolding coded_of
-coded-is index w books s at end {ps} {before = before} e₁ e₂ (At next) lines e₃ =
+coded-is index w books s at end {ps} {before = before} e₁ e₂ (Ok next) lines e₃ =
     (record { pulses = ps; before = before; lines = lines }, refl, rw (e₁, e₂, ← e₃))
-coded-is index w books s at end e₁ e₂ (Refused n place) lines e₃ = rw (e₁, e₂, ← e₃)
+coded-is index w books s at end e₁ e₂ (Err r) lines e₃ = rw (e₁, e₂, ← e₃)
 
 -- the sections, as the code reads them into lent books
 pub sections-is : {x : Answer (List ℕ)} (w : Window) (books s : List ℕ) (at end : ℕ) → books ≡ replicate 120 0
@@ -62,23 +54,17 @@ factors-is gain w n books factors s at end c f e = rw (← c, ← f) e
 -- the lines, after books and scale factors
 pub lines_on : (index : ℕ) (h : Head) (books s : List ℕ) (at end : ℕ) {factors : List ℕ} {a₂ : ℕ}
     → scale_factors h.gain h.window books s at end ≡ got factors a₂
-    → (r : Ended) (lines : List ℤ) → HoldsLines r lines (coded_of index h.window books s a₂ end)
-    → HoldsStream r h books factors lines (stream_with index h books s at end)
+    → (r : Result ℕ Refusal) (lines : List ℤ) → HoldsLines r lines (coded_of index h.window books s a₂ end)
+    → HoldsRest r h books factors lines (stream_with index h books s at end)
 unfolding stream_with
-lines_on index h books s at end e (At next) lines o = (o.0, o.1, rw (e, o.2))
-lines_on index h books s at end e (Refused n place) lines o = rw (e, o)
+lines_on index h books s at end e (Ok next) lines o = (o.0, o.1, rw (e, o.2))
+lines_on index h books s at end e (Err r) lines o = rw (e, o)
 
 -- the books, and what follows them
 pub books_on : (index : ℕ) (h : Head) (s : List ℕ) (at end : ℕ) {books : List ℕ} {m : ℕ} → sections h.window s at end ≡ got books m
     → stream_after index h s at end ≡ stream_with index h books s m end
 unfolding stream_after
 books_on index h s at end e = rw e
-
--- a head, and what follows it
-pub stream_on : (index : ℕ) (s : List ℕ) (at end : ℕ) {h : Head} {m : ℕ} → head_of index s at end ≡ got h m
-    → stream index s at end ≡ stream_after index h s m end
-unfolding stream
-stream_on index s at end e = rw e
 
 pub edges-count : length all_edges ≡ 129
 unfolding all_edges long34 short34 long67 short67

@@ -9,13 +9,13 @@ ghost use Rattle.channel.specs.Promise.{outputs_fit, channel_tests, refusal, acc
 ghost use Rattle.channel.specs.Promise.{lines_after, factors_after, books_after, ReadChannelPromise};
 
 use crate::stream::Head;
+use bits::bytes;
 use bits::calls::is_known_index;
-use bits::{Ended, bytes};
 
 pub mod stream;
 
 // What a call found: 0 and the numbers of a stream, with the windows of each group and the bits used; or a refusal's number and the bit
-// at which it was refused.
+// at which it was refused. A record with a number, as the promise's `reading_of` and the demands are of it.
 #[derive(Clone, Copy)]
 pub struct Reading {
     pub number: u8,
@@ -33,16 +33,10 @@ pub struct Reading {
 pub fn outputs_fit(lines: usize, factors: usize, books: usize) -> bool
     ensures { result ≡ outputs_fit lines factors books }
 {
-    if lines < 1024 {
-        return false;
-    }
-    if factors < 120 {
-        return false;
-    }
-    120 <= books
+    1024 <= lines && 120 <= factors && 120 <= books
 }
 
-// What is judged before any bit is read, where the outputs have room or have not: a refusal's number, or 0.
+// What is judged before any bit is read, where the outputs have room or have not: a refusal's number, or 0, as a `Reading` has it.
 pub fn channel_refusal(size: usize, start: usize, end: usize, room: bool, index: u8) -> u8
     ensures { result ≡ first_number (channel_tests (in_buffer start end size) room index) }
 {
@@ -98,24 +92,12 @@ pub fn answer(head: Head, bits: usize) -> Reading
     }
 }
 
-// The lines are copied to the front of a lent output.
-pub fn copy_lines(out: &mut [i16], lines: [i16; 1024])
-    requires { 1024 ≤ length out.old }
-    ensures { out.new ≡ lines ++ drop 1024 out.old }
+// Values are copied to the front of a lent output.
+pub fn put_front<T: Copy, const N: usize>(out: &mut [T], values: &[T; N])
+    requires { N ≤ length out.old }
+    ensures { out.new ≡ values.now ++ drop N out.old }
 {
-    let mut i = 0;
-    while i < 1024 {
-        out[i] = lines[i];
-        i += 1;
-    }
-}
-
-// A number for each band is copied to the front of a lent output.
-pub fn copy_bands(out: &mut [u8], bands: [u8; 120])
-    requires { 120 ≤ length out.old }
-    ensures { out.new ≡ bands ++ drop 120 out.old }
-{
-    bytes::put(out, 0, &bands);
+    bytes::put(out, 0, values);
 }
 
 // The channel stream in a slice: its lines, scale factors and books are written to the front of the lent outputs where it is accepted.
@@ -135,16 +117,14 @@ fn read_slice(
     let mut band_books = [0u8; 120];
     let mut band_factors = [0u8; 120];
     let mut all_lines = [0i16; 1024];
-    let read = stream::read_payload(s, index, &mut band_books, &mut band_factors, &mut all_lines);
-    let ended = read.ended;
-    match ended {
-        Ended::At(bits) => {
-            copy_lines(lines, all_lines);
-            copy_bands(factors, band_factors);
-            copy_bands(books, band_books);
-            answer(read.head, bits)
+    match stream::read_payload(s, index, &mut band_books, &mut band_factors, &mut all_lines) {
+        Ok((head, bits)) => {
+            put_front(lines, &all_lines);
+            put_front(factors, &band_factors);
+            put_front(books, &band_books);
+            answer(head, bits)
         }
-        Ended::Refused(number, place) => refused(number, place),
+        Err(refusal) => refused(refusal.number, refusal.place),
     }
 }
 

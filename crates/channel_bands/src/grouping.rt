@@ -2,7 +2,7 @@
 ghost use Rattle.std.specs.Prelude.{◌≡◌, ◌∷◌, ◌+◌, ◌-◌, ◌<◌, ◌≤◌, length};
 ghost use Rattle.channel_bands.specs.Grouping.{groups_after, groups_of, in_eight};
 
-// How many groups there are, and the windows of each, 0 past the last.
+// How many groups there are, and the windows of each, 0 past the last: eight places, as the answer for C has them.
 #[derive(Clone, Copy)]
 pub struct Groups {
     pub count: usize,
@@ -15,14 +15,12 @@ pub fn group_length(grouping: u8, from: usize) -> usize
     ensures { (groups_after (8 - from) grouping ≡ result ∷ groups_after (8 - (from + result)) grouping) × (1 ≤ result)
         × (from + result ≤ 8) }
 {
-    let mut n = 1;
-    while from + n < 8 {
+    for n in 1..8 - from {
         if (grouping >> (7 - (from + n))) % 2 != 1 {
             return n;
         }
-        n += 1;
     }
-    n
+    8 - from
 }
 
 // The groups of eight short windows, or of one long one.
@@ -39,6 +37,7 @@ pub fn groups_of(short: bool, grouping: u8) -> Groups
     }
     let mut count = 0;
     let mut from = 0;
+    // Each turn steps by the windows of its group.
     while from < 8 {
         let n = group_length(grouping, from);
         windows[count] = n as u8;

@@ -6,15 +6,13 @@ use mathlib.Core.Path.{◌≡◌, refl, sym, ◌∙◌, ap}
 use mathlib.Core.List.{List, ◌∷◌}
 use mathlib.Core.Bool.{Bool, false}
 use native.Mathlib.Omega.{arith}
-use native.Mathlib.Numerals.{add-one}
 use lib.Dec.{eqb}
-use lib.ListN.{get_or, replicate}
+use lib.ListN.{replicate}
 use lib.IntN.{ℤ, pos}
 use Rattle.bits.specs.Reader.{Answer, Reader, got, refused, give, after, ◌>>=◌}
 use Rattle.bits.specs.Loop.{counted}
 use Rattle.bits.proofs.LoopLaws.{counted_same}
 use Rattle.channel_words.specs.Books.{book, silent_book, books, book_of}
-use Rattle.channel_bands.specs.Bands.{first_line, band_width}
 use Rattle.channel_bands.specs.Grouping.{groups_after, groups_of}
 use Rattle.channel_words.proofs.MagnitudeLaws.{no-escape}
 use Rattle.channel_words.specs.InnerWords.{kind, values_by, put_by, words_by, put_escaped, escaped_by}
@@ -97,12 +95,6 @@ pub windows-start : (book first width from n : ℕ) (lines : List ℤ) (s : List
     → windows_band book first width from n lines s at end ≡ counted from (from + n - from) (window_band book first width) lines s at end
 unfolding windows_band
 windows-start book first width from n lines s at end = let q : from + n - from ≡ n = omega arith in rw q
-
-pub group-band : {x : Answer (List ℤ)} (edges books : List ℕ) (base from n b : ℕ) (lines : List ℤ) (s : List ℕ) (at end : ℕ)
-    → windows_band (get_or books (base + b) 0) (get_or edges b 0) (get_or edges (b + 1) 0 - get_or edges b 0) from n lines s at end ≡ x
-    → group_band edges books base from n b lines s at end ≡ x
-unfolding group_band first_line band_width
-group-band edges books base from n b lines s at end e = rw add-one at e
 
 module _ (edges : List ℕ) (max_sfb : ℕ) (books : List ℕ) (bits base from : ℕ) (lines : List ℤ) (s : List ℕ) (at end : ℕ) where
   pub lines-stop : (n r p : ℕ) → groups_after (8 - from) bits ≡ n ∷ groups_after (8 - (from + n)) bits

@@ -30,20 +30,23 @@ unfoldable pub rest : ℕ → ℕ → ℕ → List ℕ → List ℕ → Reader (
 rest i n last books values = counted i (n - i) (band_factor books) (state last values) >>= λ x. give x.values
 
 module _ (n last : ℕ) (books values s : List ℕ) (at end : ℕ) where
-  pub rest-start : first_factors n last books values s at end ≡ rest 0 n last books values s at end
+  pub rest_start : first_factors n last books values s at end ≡ rest 0 n last books values s at end
   unfolding first_factors rest
-  rest-start = rw (counted_start (band_factor books) n (state last values) s at end)
+  rest_start = rw (counted_start (band_factor books) n (state last values) s at end)
 
-  pub rest-stop : (i r p : ℕ) → i < n → band_factor books i (state last values) s at end ≡ refused r p
+  pub rest_stop : (i r p : ℕ) → i < n → band_factor books i (state last values) s at end ≡ refused r p
       → rest i n last books values s at end ≡ refused r p
   unfolding rest
-  rest-stop i r p h e = rw (counted_stop (band_factor books) i n (state last values) s at end r p h e)
+  rest_stop i r p h e = rw (counted_stop (band_factor books) i n (state last values) s at end r p h e)
 
   pub rest_more : (i v m : ℕ) (vs : List ℕ) → i < n → band_factor books i (state last values) s at end ≡ got (state v vs) m
       → rest i n last books values s at end ≡ rest (i + 1) n v books vs s m end
   unfolding rest
   rest_more i v m vs h e = rw (counted-more (band_factor books) i n (state last values) (state v vs) s at end m h e)
 
-  pub rest-done : (i : ℕ) → n ≤ i → rest i n last books values s at end ≡ got values at
+  pub rest_done : (i : ℕ) → n ≤ i → rest i n last books values s at end ≡ got values at
   unfolding rest
-  rest-done i h = rw (counted-done (band_factor books) i n (state last values) s at end h)
+  rest_done i h = rw (counted-done (band_factor books) i n (state last values) s at end h)
+
+-- what the code cites
+pub ruleset rest_laws = (rest_start, rest_stop, rest_more, rest_done)

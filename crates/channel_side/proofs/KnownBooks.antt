@@ -8,7 +8,7 @@ use Rattle.bits.proofs.Gives.{Gives, give-gives, bind_gives, then_gives, while-g
 use Rattle.channel_side.specs.Window.{Window}
 use Rattle.channel_side.specs.Sections.{section_length, section_book, fill, Covered, section, group_sections, group_books, sections}
 use Rattle.channel_side.proofs.MostLaws.{set-most}
-use Rattle.channel_side.proofs.SectionLaws.{book-most}
+use Rattle.channel_side.proofs.SectionLaws.{book_most}
 
 -- no book is above 11
 unfoldable pub Known : List ℕ → Type 0
@@ -22,7 +22,7 @@ fill_known books i (suc n) book h l = fill_known (set books i book) (i + 1) n bo
 section-known : (width max_sfb base : ℕ) (x : Covered) → Known x.books → Gives (λ y. Known y.books) (section width max_sfb base x)
 unfolding section
 section-known width max_sfb base x l =
-    bind_gives {P = λ book. book ≤ 11} {r = section_book} (record { law = λ s at end next v e. book-most s at end v next e }) λ book h.
+    bind_gives {P = λ book. book ≤ 11} {r = section_book} (record { law = λ s at end next v e. book_most s at end v next e }) λ book h.
     then_gives (section_length width _) λ n. give-gives (fill_known x.books _ n book h l)
 
 group_known : (width max_sfb base : ℕ) (books : List ℕ) → Known books → Gives Known (group_sections width max_sfb base books)

@@ -1,5 +1,4 @@
 pub mod MostLaws
-pub mod ToldLaws
 pub mod WindowLaws
 pub mod SectionLaws
 pub mod FactorLaws

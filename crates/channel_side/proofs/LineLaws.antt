@@ -1,23 +1,18 @@
--- A line and a pulse in 32 bits: nothing is lost, and the two tests of the code are one on the magnitude.
+-- A line and a pulse in 32 bits: nothing is lost.
 -- Assumes nothing.
-use Prim.Native.Nat.{ℕ, suc, ◌+◌, ◌-◌, ◌<◌, ◌≤◌}
-use mathlib.Core.Path.{◌≡◌, refl, sym}
-use mathlib.Core.Bool.{true, false}
+use Prim.Native.Nat.{ℕ, ◌+◌, ◌-◌, ◌<◌, ◌≤◌}
+use mathlib.Core.Path.{◌≡◌, sym}
 use native.Mathlib.Omega.{arith}
-use lib.Dec.{leb}
 use lib.IntN.{ℤ, pos, negsuc, neg_ℤ, ◌+ℤ◌, ◌-ℤ◌, nat_abs}
-use lib.Signed.{lt_z}
 use mir.Syntax.{w16, w32}
 use mir.Val.{SFits, to_z, of_z}
 use mir.ValLaws.{to_z-of_z, to_z_pos}
-use borrow.Author.Tests.{le-leb, lt-leb, ltb-true, ltb-false}
 use mathlib.Core.List.{List}
-use lib.ListN.{get_or, set}
-use Rattle.bits.specs.Reader.{Answer, got, refused}
+use lib.ListN.{get_or}
+use Rattle.bits.specs.Reader.{Answer}
 use Rattle.bits.specs.Loop.{counted}
 use Rattle.bits.proofs.LoopLaws.{counted_start}
 use Rattle.channel_side.specs.Pulses.{Pulses, pulsed, changed, apply_pulse, apply_pulses}
-use Rattle.bits.proofs.Bools.{true-false}
 use Rattle.bits.proofs.Signed.{fits, abs_add, abs_neg, widened}
 
 abs_fits : (z : ℤ) → SFits w16 z → nat_abs z ≤ 32768
@@ -48,31 +43,6 @@ module _ (z : ℤ) (a : ℕ) (f : SFits w16 z) (h : a < 256) where
 
   pub diff-wide-is : to_z w32 (of_z w32 (to_z w32 (of_z w32 (to_z w16 (of_z w16 z))) -ℤ to_z w32 a)) ≡ z -ℤ pos a
   diff-wide-is = rw (wide_is z f, to_z_pos w32 a (omega arith)) (to_z-of_z w32 (z -ℤ pos a) diff-small)
-
-pub in-range : (z : ℤ) → lt_z z (negsuc 8190) ≡ false → lt_z (pos 8191) z ≡ false → nat_abs z ≤ 8191
-in-range (pos n) a b = ltb-false 8191 n b
-in-range (negsuc n) a b = let h = ltb-false 8190 n a in omega arith
-
-too_low : (z : ℤ) → lt_z z (negsuc 8190) ≡ true → leb (nat_abs z) 8191 ≡ false
-too_low (pos n) e = absurd (true-false false e refl)
-too_low (negsuc n) e = lt-leb (suc n) 8191 (let h = ltb-true 8190 n e in omega arith)
-
-too_high : (z : ℤ) → lt_z (pos 8191) z ≡ true → leb (nat_abs z) 8191 ≡ false
-too_high (pos n) e = lt-leb n 8191 (ltb-true 8191 n e)
-too_high (negsuc n) e = absurd (true-false false e refl)
-
-module _ (z : ℤ) (line place : ℕ) (lines : List ℤ) (at : ℕ) where
-  pub changed-low : lt_z z (negsuc 8190) ≡ true → refused 26 place ≡ changed z line place lines at
-  unfolding changed
-  changed-low e = rw (too_low z e)
-
-  pub changed-high : lt_z (pos 8191) z ≡ true → refused 26 place ≡ changed z line place lines at
-  unfolding changed
-  changed-high e = rw (too_high z e)
-
-  pub changed-got : nat_abs z ≤ 8191 → got (set lines line z) at ≡ changed z line place lines at
-  unfolding changed
-  changed-got h = rw (le-leb _ _ h)
 
 -- the k-th pulse, as the code applies it
 pub apply_is : {x : Answer (List ℤ)} (p : Pulses) (k : ℕ) (lines : List ℤ) (s : List ℕ) (at end : ℕ)

@@ -1,13 +1,13 @@
 -- What is known of window information that was read.
 -- Assumes nothing.
 use Prim.Native.Nat.{ℕ, ◌<◌, ◌≤◌}
-use mathlib.Core.Path.{◌≡◌, ◌∙◌}
+use mathlib.Core.Path.{◌≡◌}
 use mathlib.Core.List.{List}
 use mathlib.Core.Bool.{Bool, true, false}
 use native.Mathlib.Omega.{arith}
 use lib.Dec.{leb, eqb}
 use borrow.Author.Tests.{leb-true}
-use Rattle.bits.specs.Reader.{Answer, got, pick, tested}
+use Rattle.bits.specs.Reader.{got, pick}
 use Rattle.bits.specs.Field.{field, zero_bit}
 use Rattle.bits.proofs.Lawful.{split, tested-got}
 use Rattle.bits.proofs.Taken.{field_below}
@@ -36,14 +36,10 @@ unfolding grouping_of
 grouping_below true s at end v next e = field_below 7 s at end v next e
 grouping_below false s at end v next e = let h = zero_bit-below 20 s at end v next e in omega arith
 
--- max_sfb, as the code judges it
-pub max_sfb-is : {x y : Answer ℕ} {m : ℕ} (index : ℕ) (short : Bool) (n : ℕ) (s : List ℕ) (at end : ℕ) → pick short 4 6 ≡ n
-    → m ≡ band_count index short
-    → y ≡ field n s at end → x ≡ tested y 21 (λ v. leb v m) at → x ≡ max_sfb_of index short s at end
-unfolding max_sfb_of
-max_sfb-is index short n s at end w b f e = e ∙ rw (f, b, ← w)
-
 -- max_sfb is small
-pub max_sfb-small : (index : ℕ) (short : Bool) (s : List ℕ) (at end v next : ℕ) → max_sfb_of index short s at end ≡ got v next → v ≤ 49
-max_sfb-small index short s at end v next e =
+pub max_sfb_small : (index : ℕ) (short : Bool) (s : List ℕ) (at end v next : ℕ) → max_sfb_of index short s at end ≡ got v next → v ≤ 49
+max_sfb_small index short s at end v next e =
     omega (arith, max_sfb_bound index short s at end v next e, bands-most index short, most-small short)
+
+-- what the code cites
+pub ruleset bounds = (max_sfb_bound, max_sfb_small, grouping_below, sequence_below, field_below)

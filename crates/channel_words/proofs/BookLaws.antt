@@ -7,12 +7,11 @@ use native.Mathlib.Omega.{arith}
 use native.Mathlib.Decide.{dec_le}
 use lib.ListN.{get_or-eq_default}
 use Rattle.bits.proofs.Spelt.{every-at}
-use Rattle.tables.specs.GeneratedNames.{table_at}
-use Rattle.tables.specs.InnerLent.{lookup_at, elements, ChannelTables}
+use Rattle.tables.specs.InnerLent.{lookups_for, lookup_at, elements}
 use Rattle.tables.specs.declared.Lookup.{Lookup}
 use Rattle.tables.proofs.RunLaws.{run_length}
 use Rattle.tables.proofs.WordNear.{word-inside}
-use Rattle.tables.proofs.LentLaws.{channel_lent, lies-of, looked-of}
+use Rattle.tables.proofs.LentLaws.{lies-of, looked-of}
 use Rattle.channel_words.specs.InnerWords.{BookLookup}
 use Rattle.channel_words.specs.Tuple.{spectral_word}
 use Rattle.channel_words.specs.Books.{Book, book, silent_book, books, book_of}
@@ -29,10 +28,6 @@ either P k n a b h g =
 pub pair_is : {dim base offset : ℕ} (k : ℕ) {n : ℕ} → book k dim base offset ≡ book_of k → book (suc k) dim base offset ≡ book_of (suc k)
     → k ≤ n → n ≤ suc k → book n dim base offset ≡ book_of n
 pair_is {dim} {base} {offset} k {n} a b h g = either (λ n. book n dim base offset ≡ book_of n) k n a b h g
-
--- so have their tables, of entries
-pub pair_count : (k m : ℕ) {n : ℕ} → (table_at k).count ≡ m → (table_at (suc k)).count ≡ m → k ≤ n → n ≤ suc k → (table_at n).count ≡ m
-pair_count k m {n} a b h g = either (λ n. (table_at n).count ≡ m) k n a b h g
 
 pub no_book : {n : ℕ} → n ≡ 0 → silent_book ≡ book_of n
 unfolding book_of books
@@ -85,11 +80,11 @@ spectral-book n =
     (λ h. absurd (h refl))
 
 -- the lookup of a spectral book reads its words, each of which lies before the end
-pub book-lookup : (number : ℕ) → 1 ≤ number → number ≤ 11 → {lookups : List ℕ} {l : Lookup} → ChannelTables lookups → l ≡ lookup_at number
+pub book-lookup : (number : ℕ) → 1 ≤ number → number ≤ 11 → {lookups : List ℕ} {l : Lookup} → lookups ≡ lookups_for number
+    → l ≡ lookup_at number
     → BookLookup (elements lookups l) l.bits number
 unfolding spectral_word
-book-lookup number h g {lookups} {l} p q =
-    let lent = channel_lent number (omega arith) p in
+book-lookup number h g {lookups} {l} lent q =
     let lies = lies-of number (omega arith) lent q in
     let n = run_length lookups l.first (l.last - l.first) (omega (arith, lies.0, lies.1)) in
     let reads = looked-of number (omega arith) lent q in

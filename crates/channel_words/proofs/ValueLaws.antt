@@ -48,17 +48,6 @@ signs-le d = go (eqb d 0)
     go true = omega arith
     go false = omega arith
 
--- a word that is refused
-pub put_refused : (word : Reader ℕ) (b : Book) (line : ℕ) (lines : List ℤ) (s : List ℕ) (at end : ℕ) {n p : ℕ} → word s at end ≡ refused n p
-    → put_by word b line lines s at end ≡ refused n p
-unfolding put_by values_by
-put_refused word b line lines s at end e = rw e
-
-pub values-refused : (word : Reader ℕ) (b : Book) (s : List ℕ) (at end : ℕ) {n p : ℕ} → word s at end ≡ refused n p
-    → values_by word b s at end ≡ refused n p
-unfolding values_by
-values-refused word b s at end e = rw e
-
 -- the values of a word are put in the lines
 put-got : (word : Reader ℕ) (b : Book) (line : ℕ) (lines vs : List ℤ) (s : List ℕ) (at end next : ℕ)
     → values_by word b s at end ≡ got vs next

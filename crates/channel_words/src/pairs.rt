@@ -1,15 +1,17 @@
 // The words of books 5 to 11: two values each.
-ghost use Rattle.std.specs.Prelude.{◌≡◌, ◌+◌, ◌*◌, ◌/◌, ◌≤◌, length, List, ℤ};
-ghost use Rattle.bits.specs.InnerAnswers.{field_answer, ended_answer};
+ghost use Rattle.std.specs.Prelude.{◌≡◌, ◌+◌, ◌*◌, ◌/◌, ◌≤◌, IfOk};
+ghost use Rattle.bits.specs.InnerAnswers.{answer_of, ended_answer, reads};
 ghost use Rattle.bits.specs.Loop.{counted};
 ghost use Rattle.words.specs.InnerLookup.{looked};
-ghost use Rattle.bits.specs.Reader.{refused};
 ghost use Rattle.channel_words.specs.InnerWords.{kind, values_by, put_by, words_by, magnitude_of, put_escaped, escaped_by};
 ghost use Rattle.channel_words.specs.InnerWords.{Readable, PairBase};
-ghost use Rattle.channel_words.specs.InnerPairs.{pair_values, PairFits};
+ghost use Rattle.channel_words.specs.InnerPairs.{pair_answer, PairFits};
 
+use crate::bands::{Kind, read_words};
+use crate::entries::entry_in;
 use crate::signs::{lowered, sign_count, with_sign};
-use bits::{Ended, Field, window};
+use bits::window::bit_of;
+use bits::{Answer, Bits, Ended, refused};
 use words::{escape, lookup};
 
 // Two numbers with a sign bit each.
@@ -19,27 +21,6 @@ struct Pair {
     first_sign: u32,
     second: u32,
     second_sign: u32,
-}
-
-// How the reading of a word and its sign bits ends, and the numbers.
-#[derive(Clone, Copy)]
-struct ReadPair {
-    ended: Ended,
-    pair: Pair,
-}
-
-// A pair of which nothing was read.
-fn cut_pair(number: u8, place: usize) -> ReadPair
-    ensures { (ended_answer {A = List ℤ} result.ended (pair_values result.pair) ≡ refused number place) × PairFits result.pair }
-{
-    let pair = Pair {
-        first: 0,
-        first_sign: 0,
-        second: 0,
-        second_sign: 0,
-    };
-    let ended = Ended::Refused(number, place);
-    ReadPair { ended, pair }
 }
 
 // The first number of an entry of two, by how many numbers a value can be.
@@ -57,136 +38,130 @@ fn first_number(entry: u32, base: u32) -> u32
 }
 
 // Two unsigned numbers with their sign bits.
-fn read_pair(s: &[u8], at: usize, end: usize, look: &[u16], bits: usize, base: u32) -> ReadPair
-    requires { (end ≤ 8 * length s.now) × Readable look.now bits (base * base) × PairBase base }
-    ensures { (ended_answer result.ended (pair_values result.pair)
-        ≡ values_by (looked look.now bits) (kind 2 base 0) s.now at end)
-        × PairFits result.pair }
+#[tactic(auto, unfolding(crate::specs::InnerWords::values_by))]
+fn read_pair(s: &Bits, at: usize, look: &[u16], bits: usize, base: u32) -> Answer<Pair>
+    requires { Readable look.now bits (base * base) × PairBase base }
+    ensures values { pair_answer result ≡ reads (values_by (looked look.now bits) (kind 2 base 0)) s.now at }
+    ensures fits { IfOk result (λ r. PairFits r.0) }
 {
-    let w = window::window(s, at, end);
-    match lookup::answer(lookup::leaf(look, bits, w), at, end) {
-        Field::Got(entry, next) => {
-            let first = first_number(entry, base);
-            let second = entry - base * first;
-            let signs = next - at;
-            let after_first = signs + sign_count(first);
-            let size = after_first + sign_count(second);
-            if end - at < size {
-                return cut_pair(10, end);
-            }
-            let pair = Pair {
-                first,
-                first_sign: window::bit_of(w, signs),
-                second,
-                second_sign: window::bit_of(w, after_first),
-            };
-            let ended = Ended::At(at + size);
-            ReadPair { ended, pair }
-        }
-        Field::Refused(number, place) => cut_pair(number, place),
+    let w = s.window(at);
+    let (entry, after_word) = entry_in(w, s, at, look, bits)?;
+    let first = first_number(entry, base);
+    let second = entry - base * first;
+    let signs = after_word - at;
+    let after_first = signs + sign_count(first);
+    let size = after_first + sign_count(second);
+    if s.end - at < size {
+        return refused(10, s.end);
     }
-}
-
-// Two signed values, from a line on.
-fn read_signed_pair(
-    s: &[u8],
-    at: usize,
-    end: usize,
-    look: &[u16],
-    bits: usize,
-    line: usize,
-    lines: &mut [i16; 1024],
-) -> Ended
-    requires { (end ≤ 8 * length s.now) × Readable look.now bits 81 × (line + 2 ≤ 1024) }
-    ensures { ended_answer result lines.new
-        ≡ put_by (looked look.now bits) (kind 2 9 4) line lines.old s.now at end }
-{
-    let word = lookup::read_word(s, at, end, look, bits);
-    let Field::Got(entry, next) = word else {
-        return bits::passed_on(word);
+    let pair = Pair {
+        first,
+        first_sign: bit_of(w, signs),
+        second,
+        second_sign: bit_of(w, after_first),
     };
-    lines[line] = lowered(entry / 9 % 9, 4);
-    lines[line + 1] = lowered(entry % 9, 4);
-    Ended::At(next)
+    Ok((pair, at + size))
 }
 
 // A number, or the escape that it is the flag of.
-fn read_magnitude(s: &[u8], at: usize, end: usize, d: u32) -> Field
-    requires { end ≤ 8 * length s.now }
-    ensures { field_answer result ≡ magnitude_of d s.now at end }
+#[tactic(auto, unfolding(crate::specs::InnerWords::magnitude_of))]
+fn read_magnitude(s: &Bits, at: usize, d: u32) -> Answer<u32>
+    requires { d ≤ 16 }
+    ensures magnitude { answer_of result ≡ reads (magnitude_of d) s.now at }
+    ensures fits { IfOk result (λ r. r.0 ≤ 8191) }
 {
     if d == 16 {
-        return escape::read_escape(s, at, end);
+        return escape::read_escape(s, at);
     }
-    Field::Got(d, at)
+    Ok((d, at))
 }
 
-// Two unsigned values with their sign bits, then their escapes, from a line on.
-fn read_unsigned_pair(
-    s: &[u8],
-    at: usize,
-    end: usize,
-    look: &[u16],
-    bits: usize,
+// Two signed values.
+#[derive(Clone, Copy)]
+struct SignedPair;
+
+impl Kind for SignedPair {
+    ghost SIZE = { 2 };
+
+    ghost readable = { λ self look bits. Readable look bits 81 };
+
+    ghost word = { λ self look bits. put_by (looked look bits) (kind 2 9 4) };
+
+    const SIZE: usize = 2;
+
+    #[tactic(auto, unfolding(crate::specs::InnerWords::put_by, crate::specs::InnerWords::values_by))]
+    fn read(
+        &self,
+        s: &Bits,
+        at: usize,
+        look: &[u16],
+        bits: usize,
+        line: usize,
+        lines: &mut [i16; 1024],
+    ) -> Ended {
+        let (entry, next) = lookup::read_word(s, at, look, bits)?;
+        lines[line] = lowered(entry / 9 % 9, 4);
+        lines[line + 1] = lowered(entry % 9, 4);
+        Ok(next)
+    }
+}
+
+// Two unsigned values with their sign bits, then their escapes.
+#[derive(Clone, Copy)]
+struct UnsignedPair {
     base: u32,
-    line: usize,
-    lines: &mut [i16; 1024],
-) -> Ended
-    requires { (end ≤ 8 * length s.now) × Readable look.now bits (base * base) × PairBase base × (line + 2 ≤ 1024) }
-    ensures { ended_answer result lines.new
-        ≡ put_escaped (looked look.now bits) base line lines.old s.now at end }
-{
-    let read = read_pair(s, at, end, look, bits, base);
-    let ended = read.ended;
-    let Ended::At(after_signs) = ended else {
-        return ended;
-    };
-    let first = read_magnitude(s, after_signs, end, read.pair.first);
-    let Field::Got(m, after_first) = first else {
-        return bits::passed_on(first);
-    };
-    let second = read_magnitude(s, after_first, end, read.pair.second);
-    let Field::Got(n, after_second) = second else {
-        return bits::passed_on(second);
-    };
-    lines[line] = with_sign(m, read.pair.first_sign);
-    lines[line + 1] = with_sign(n, read.pair.second_sign);
-    Ended::At(after_second)
+}
+
+impl Kind for UnsignedPair {
+    ghost SIZE = { 2 };
+
+    ghost readable = { λ self look bits. Readable look bits (self.base * self.base) × PairBase self.base };
+
+    ghost word = { λ self look bits. put_escaped (looked look bits) self.base };
+
+    const SIZE: usize = 2;
+
+    #[tactic(auto, unfolding(crate::specs::InnerWords::put_escaped))]
+    fn read(
+        &self,
+        s: &Bits,
+        at: usize,
+        look: &[u16],
+        bits: usize,
+        line: usize,
+        lines: &mut [i16; 1024],
+    ) -> Ended {
+        let (pair, after_signs) = read_pair(s, at, look, bits, self.base)?;
+        let (first, after_first) = read_magnitude(s, after_signs, pair.first)?;
+        let (second, after_second) = read_magnitude(s, after_first, pair.second)?;
+        lines[line] = with_sign(first, pair.first_sign);
+        lines[line + 1] = with_sign(second, pair.second_sign);
+        Ok(after_second)
+    }
 }
 
 // The words of a band of two signed values each.
 pub fn read_signed_pairs(
-    s: &[u8],
+    s: &Bits,
     at: usize,
-    end: usize,
     look: &[u16],
     bits: usize,
     first: usize,
     words: usize,
     lines: &mut [i16; 1024],
 ) -> Ended
-    requires { (end ≤ 8 * length s.now) × Readable look.now bits 81 × (first + words * 2 ≤ 1024) }
+    requires { Readable look.now bits 81 × (first + words * 2 ≤ 1024) }
     ensures { ended_answer result lines.new
-        ≡ counted 0 words (words_by (looked look.now bits) (kind 2 9 4) first) lines.old s.now at end }
+        ≡ reads (counted 0 words (words_by (looked look.now bits) (kind 2 9 4) first) lines.old) s.now at }
 {
-    let mut place = at;
-    let mut t = 0;
-    while t < words {
-        let read = read_signed_pair(s, place, end, look, bits, first + t * 2, lines);
-        let Ended::At(next) = read else {
-            return read;
-        };
-        place = next;
-        t += 1;
-    }
-    Ended::At(place)
+    let kind = SignedPair;
+    read_words(&kind, s, at, look, bits, first, words, lines)
 }
 
 // The words of a band of two unsigned values each, with their escapes.
 pub fn read_unsigned_pairs(
-    s: &[u8],
+    s: &Bits,
     at: usize,
-    end: usize,
     look: &[u16],
     bits: usize,
     base: u32,
@@ -194,19 +169,18 @@ pub fn read_unsigned_pairs(
     words: usize,
     lines: &mut [i16; 1024],
 ) -> Ended
-    requires { (end ≤ 8 * length s.now) × Readable look.now bits (base * base) × PairBase base × (first + words * 2 ≤ 1024) }
+    requires { Readable look.now bits (base * base) × PairBase base × (first + words * 2 ≤ 1024) }
     ensures { ended_answer result lines.new
-        ≡ counted 0 words (escaped_by (looked look.now bits) base first) lines.old s.now at end }
+        ≡ reads (counted 0 words (escaped_by (looked look.now bits) base first) lines.old) s.now at }
 {
-    let mut place = at;
-    let mut t = 0;
-    while t < words {
-        let read = read_unsigned_pair(s, place, end, look, bits, base, first + t * 2, lines);
-        let Ended::At(next) = read else {
-            return read;
-        };
-        place = next;
-        t += 1;
-    }
-    Ended::At(place)
+    read_words(
+        &UnsignedPair { base },
+        s,
+        at,
+        look,
+        bits,
+        first,
+        words,
+        lines,
+    )
 }

@@ -8,17 +8,25 @@ use adts_files::{rows, window};
 use print_lines::frames;
 use std::io::Read;
 
-// How a listing ended.
+// Why a listing stopped.
 #[derive(Clone, Copy)]
-enum Outcome {
-    Listed,
+enum Fault {
     Unreadable,
     Unwritten,
     Uncounted,
 }
 
+// What is told of a fault.
+fn words_of(fault: Fault) -> &'static str {
+    match fault {
+        Fault::Unreadable => "oarcradler: standard input cannot be read",
+        Fault::Unwritten => "oarcradler: standard output cannot be written: lines are missing",
+        Fault::Uncounted => "oarcradler: standard input is too long: its bytes cannot be counted",
+    }
+}
+
 // The line of the k-th frame, which starts at a byte of the file.
-fn say_row(out: &impl Print, k: usize, byte: usize, r: Row) -> bool {
+fn say_row(out: &impl Print, k: usize, byte: usize, r: Row) -> std::io::Result<()> {
     if r.number != 0 {
         return frames::say_refused_frame(out, k, byte, r.number, r.place);
     }
@@ -27,55 +35,42 @@ fn say_row(out: &impl Print, k: usize, byte: usize, r: Row) -> bool {
 
 // The frames of the file, as far as a next one is known. Bytes and frames are counted up to 2^64 - 257, the largest number that a line can
 // have; each frame has a byte, so the frames are not more.
-fn list_frames(input: &mut impl Read, out: &impl Print, buffer: &mut [u8]) -> Outcome
+fn list_frames(input: &mut impl Read, out: &impl Print, buffer: &mut [u8]) -> Result<(), Fault>
     requires { 8191 ≤ length buffer.old }
 {
     let mut k = 0;
     let mut byte = 0usize;
     let mut w = window::empty();
+    // A `loop`, as only a frame says where the next one is.
     loop {
-        w = window::refill(input, buffer, w);
-        if !w.readable {
-            return Outcome::Unreadable;
+        let Ok(next) = window::refill(input, buffer, w) else {
+            return Err(Fault::Unreadable);
+        };
+        w = next;
+        if w.start == w.end {
+            return Ok(());
         }
-        let start = w.start;
-        let end = w.end;
-        if start == end {
-            return Outcome::Listed;
+        let row = rows::read_row(&buffer[w.start..w.end]);
+        if say_row(out, k, byte, row).is_err() {
+            return Err(Fault::Unwritten);
         }
-        let row = rows::read_row(&buffer[start..end]);
-        if !say_row(out, k, byte, row) {
-            return Outcome::Unwritten;
+        if row.step == 0 {
+            return Ok(());
         }
-        let step = row.step;
-        if step == 0 {
-            return Outcome::Listed;
-        }
-        if 18446744073709551359 - byte < step {
-            return Outcome::Uncounted;
+        if 18446744073709551359 - byte < row.step {
+            return Err(Fault::Uncounted);
         }
         k += 1;
-        byte += step;
-        w = window::passed(w, step);
+        byte += row.step;
+        w = window::passed(w, row.step);
     }
 }
 
 // The file on standard input. A fault of the input or the output is told on standard error, of which tools/run makes an exit status.
 fn main(rt: HostRuntime) {
     let mut buffer = io::large_buffer();
-    let outcome = list_frames(&mut rt.stdin(), &rt, &mut buffer);
-    match outcome {
-        Outcome::Listed => {}
-        Outcome::Unreadable => {
-            let _ = rt.eprintln("oarcradler: standard input cannot be read");
-        }
-        Outcome::Unwritten => {
-            let _ = rt.eprintln("oarcradler: standard output cannot be written: lines are missing");
-        }
-        Outcome::Uncounted => {
-            let _ = rt.eprintln(
-                "oarcradler: standard input is too long: its bytes cannot be counted",
-            );
-        }
+    let listed = list_frames(&mut rt.stdin(), &rt, &mut buffer);
+    if let Err(fault) = listed {
+        let _ = rt.eprintln(words_of(fault));
     }
 }

@@ -58,11 +58,8 @@ fn put_row(rows: &mut [usize], at: usize, row: Row)
     ensures { rows.new
         ≡ over rows.old at (row.number ∷ row.place ∷ row.first ∷ row.second ∷ row.bits ∷ []) }
 {
-    rows[at] = row.number;
-    rows[at + 1] = row.place;
-    rows[at + 2] = row.first;
-    rows[at + 3] = row.second;
-    rows[at + 4] = row.bits;
+    let five = [row.number, row.place, row.first, row.second, row.bits];
+    rows[at..at + 5].copy_from_slice(&five);
 }
 
 // A payload's row, and the stereo state after it.
@@ -108,15 +105,11 @@ fn fill_rows(image: &[u8], count: usize, index: u8, rows: &mut [usize])
     ensures { rows.new ≡ over rows.old 0 (rows_of image.now count) }
 {
     let mut state = states::fresh();
-    let mut k = 0;
-    while k < count {
+    for k in 0..count {
         let part = image::known_part(image, k);
-        let start = part.start;
-        let end = part.end;
-        let turn = turn_of(&image[start..end], k, index, state);
+        let turn = turn_of(&image[part.start..part.end], k, index, state);
         put_row(rows, 5 * k, turn.row);
         state = turn.state;
-        k += 1;
     }
 }
 

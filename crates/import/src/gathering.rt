@@ -1,7 +1,7 @@
 // The streams of a file, gathered for an image: from byte 2,054 of a lent buffer on, which is where the largest header would end.
-ghost use Rattle.std.specs.Prelude.{◌≡◌, true, false, ◌+◌, ◌*◌, ◌<◌, ◌≤◌, length};
+ghost use Rattle.std.specs.Prelude.{◌≡◌, ◌+◌, ◌*◌, ◌<◌, ◌≤◌, length, IfOk};
 ghost use Rattle.bits.specs.Packed.{bytes_for};
-ghost use Rattle.import.specs.InnerGathering.{FitsImage};
+ghost use Rattle.import.specs.InnerGathering.{FitsImage, TakenFrom};
 
 use adts::Framed;
 use adts_files::window;
@@ -9,28 +9,35 @@ use print_lines::faults;
 use std::io::Read;
 
 // How many streams were gathered, up to which byte of the file, how many bytes they take with the stereo payloads after them, and their
-// sampling index; the length of the last one's frame; or that a fault was told.
+// sampling index.
 #[derive(Clone, Copy)]
 pub struct Gathered {
-    pub told: bool,
     pub count: usize,
     pub byte: usize,
     pub size: usize,
     pub index: u8,
+}
+
+// What is gathered with a frame, and how long the frame is.
+#[derive(Clone, Copy)]
+pub struct Taken {
+    pub gathered: Gathered,
     pub length: usize,
 }
 
-// Nothing was gathered, and a fault was told or not.
-fn nothing(told: bool) -> Gathered
-    ensures { FitsImage result × (result.told ≡ told) × (result.length ≡ 0) }
+// That a fault was told on standard error.
+#[derive(Clone, Copy)]
+pub struct Told;
+
+// Before the first frame nothing is gathered.
+fn nothing() -> Gathered
+    ensures { FitsImage result }
 {
     Gathered {
-        told,
         count: 0,
         byte: 0,
         size: 0,
         index: 0,
-        length: 0,
     }
 }
 
@@ -59,29 +66,29 @@ fn bytes_for(bits: usize) -> usize
     (bits + 7) / 8
 }
 
-// Whether an image takes a frame after what was gathered, for a sampling index; if not, it is told why.
-fn is_taken(err: &impl Print, g: Gathered, index: u8, f: Framed) -> bool
+// A frame is judged after what was gathered, for a sampling index; where an image does not take it, it is told why.
+fn judge(err: &impl Print, g: Gathered, index: u8, f: Framed) -> Result<(), Told>
     requires { FitsImage g × (bytes_for f.reading.bits ≤ 76000) }
-    ensures { result ≡ true → (g.count < 512)
-        × (g.size + bytes_for f.reading.bits + 4 * g.count + 11 ≤ 65535) }
+    ensures { IfOk result (λ fits. (g.count < 512)
+        × (g.size + bytes_for f.reading.bits + 4 * g.count + 11 ≤ 65535)) }
 {
     if f.reading.number != 0 {
         faults::tell_refused(err, g.count, g.byte, f.reading.number as usize);
-        return false;
+        return Err(Told);
     }
     if f.index != index {
         faults::tell_index(err, g.count, g.byte, f.index as usize, index as usize);
-        return false;
+        return Err(Told);
     }
     if 512 <= g.count {
         faults::tell_count(err, g.count, g.byte);
-        return false;
+        return Err(Told);
     }
     if 65535 < g.size + bytes_for(f.reading.bits) + 4 * g.count + 11 {
         faults::tell_size(err, g.count, g.byte);
-        return false;
+        return Err(Told);
     }
-    true
+    Ok(())
 }
 
 // What is gathered with the frame at the front of a slice: its stream and the stereo payload 0 are put into the image, and where the stream
@@ -92,27 +99,26 @@ fn take_frame(
     image: &mut [u8],
     ends: &mut [u16],
     g: Gathered,
-) -> Gathered
+) -> Result<Taken, Told>
     requires { (length bytes.now ≤ 65536) × (length image.old ≡ 76000) × (512 ≤ length ends.old) × FitsImage g }
-    ensures { FitsImage result × (result.length ≤ length bytes.now) × (result.told ≡ false → result.count ≡ g.count + 1) }
+    ensures { IfOk result (λ taken. TakenFrom g bytes.now taken) }
 {
     let f = unwrap_at(bytes, image, 2054 + g.size);
     let index = first_index(g.count, g.index, f.index);
-    if !is_taken(err, g, index, f) {
-        return nothing(true);
-    }
+    judge(err, g, index, f)?;
     let last = g.size + bytes_for(f.reading.bits);
-    let count = g.count;
     image[2054 + last] = 0;
-    ends[count] = last as u16;
-    Gathered {
-        told: false,
-        count: count + 1,
+    ends[g.count] = last as u16;
+    let gathered = Gathered {
+        count: g.count + 1,
         byte: g.byte + f.length,
         size: last + 1,
         index,
+    };
+    Ok(Taken {
+        gathered,
         length: f.length,
-    }
+    })
 }
 
 // The streams of the file, each followed by the stereo payload 0, and where each ends; up to the first fault, which is told.
@@ -122,27 +128,24 @@ pub fn gather(
     buffer: &mut [u8],
     image: &mut [u8],
     ends: &mut [u16],
-) -> Gathered
+) -> Result<Gathered, Told>
     requires { (8191 ≤ length buffer.old) × (length buffer.old ≤ 65536) × (length image.old ≡ 76000) × (512 ≤ length ends.old) }
-    ensures { FitsImage result }
+    ensures { IfOk result (λ gathered. FitsImage gathered) }
 {
-    let mut g = nothing(false);
+    let mut g = nothing();
     let mut w = window::empty();
+    // A `loop`, as only a frame says where the next one is.
     loop {
-        w = window::refill(input, buffer, w);
-        if !w.readable {
+        let Ok(next) = window::refill(input, buffer, w) else {
             let _ = err.println("oarcradler: standard input cannot be read");
-            return nothing(true);
+            return Err(Told);
+        };
+        w = next;
+        if w.start == w.end {
+            return Ok(g);
         }
-        let start = w.start;
-        let end = w.end;
-        if start == end {
-            return g;
-        }
-        g = take_frame(err, &buffer[start..end], image, ends, g);
-        if g.told {
-            return g;
-        }
-        w = window::passed(w, g.length);
+        let taken = take_frame(err, &buffer[w.start..w.end], image, ends, g)?;
+        g = taken.gathered;
+        w = window::passed(w, taken.length);
     }
 }

@@ -47,10 +47,8 @@ fn put_offsets(image: &mut [u8], at: usize, base: usize, ends: &[u16], count: us
     requires { (at + 4 * count ≤ length image.old) × (count ≤ 512) × (base ≤ 65535) × (count ≤ length ends.now) }
     ensures { image.new ≡ over image.old at (offsets_of base ends.now count) }
 {
-    let mut k = 0;
-    while k < count {
+    for k in 0..count {
         put_both(image, at + 4 * k, base, ends, k);
-        k += 1;
     }
 }
 

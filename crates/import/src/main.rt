@@ -16,13 +16,13 @@ fn write_image(
     index: u8,
     count: usize,
     size: usize,
-) -> bool
+) -> std::io::Result<()>
     requires { (count ≤ 512) × (size + 4 * count ≤ 65529) × (length image.old ≡ 76000) × (512 ≤ length ends.now) }
 {
     let start = 2048 - 4 * count;
     let end = 2054 + size;
     put_heading(image, start, index, ends, count);
-    out.write_all(&image[start..end]).is_ok()
+    out.write_all(&image[start..end])
 }
 
 // The file on standard input. Why no image is made or written is told on standard error, of which tools/run makes an exit status.
@@ -30,21 +30,21 @@ fn main(rt: HostRuntime) {
     let mut buffer = io::large_buffer();
     let mut image = [0u8; 76000];
     let mut ends = [0u16; 512];
-    let g = gathering::gather(
+    let gathered = gathering::gather(
         &mut rt.stdin(),
         &rt.stderr(),
         &mut buffer,
         &mut image,
         &mut ends,
     );
-    if g.told {
+    let Ok(g) = gathered else {
         return;
-    }
+    };
     if g.count == 0 {
         let _ = rt.eprintln("oarcradler: standard input has no frame");
         return;
     }
-    if !write_image(&rt, &mut image, &ends, g.index, g.count, g.size) {
+    if write_image(&rt, &mut image, &ends, g.index, g.count, g.size).is_err() {
         let _ = rt.eprintln("oarcradler: standard output cannot be written");
     }
 }

@@ -1,38 +1,21 @@
 // Standard input, read to its end.
+ghost use Rattle.std.specs.Prelude.{IfOk};
 ghost use Rattle.io.specs.Counts.{IsPrefixLen};
 
-use std::io::Read;
+use std::io::{self, Read};
 
-// How many bytes were read, and whether every read succeeded.
-#[derive(Clone, Copy)]
-pub struct Input {
-    pub size: usize,
-    pub readable: bool,
-}
-
-// Standard input, read to its end or until the buffer is full, or up to a read that fails.
-pub fn read_input(input: &mut impl Read, buffer: &mut [u8]) -> Input
-    ensures { IsPrefixLen result.size buffer.new }
+// Standard input, read to its end or until the buffer is full: how many bytes were read.
+pub fn read_input(input: &mut impl Read, buffer: &mut [u8]) -> io::Result<usize>
+    ensures { IfOk result (λ size. IsPrefixLen size buffer.new) }
 {
     let mut size = 0;
+    // A `while`, as a read brings as many bytes as there are.
     while size < buffer.len() {
-        let got = input.read(&mut buffer[size..]);
-        let Ok(more) = got else {
-            return Input {
-                size: size,
-                readable: false,
-            };
-        };
+        let more = input.read(&mut buffer[size..])?;
         if more == 0 {
-            return Input {
-                size: size,
-                readable: true,
-            };
+            return Ok(size);
         }
         size += more;
     }
-    Input {
-        size: size,
-        readable: true,
-    }
+    Ok(size)
 }

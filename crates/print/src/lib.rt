@@ -1,51 +1,36 @@
 // A tag image on standard input, printed: the line of each payload, and in full what it holds and the stereo state after it.
 #![tactic(auto)]
 
-ghost use Rattle.std.specs.Prelude.{◌≡◌, ◌≤◌, ◌<◌, length};
+ghost use Rattle.std.specs.Prelude.{◌≡◌, ◌≤◌, ◌<◌, length, IfOk};
 ghost use Rattle.image.specs.Image.{header_of, part_of, bytes_of};
 ghost use Rattle.image_outline.specs.Answers.{state_from};
 ghost use Rattle.io.specs.Counts.{IsPrefixLen};
 ghost use Rattle.print.specs.InnerStates.{printed_from, printed_after};
 
 use print_lines::Payload;
+use std::io::Result;
 use stereo::{State, states};
 
 mod channels;
 mod input;
 mod stereos;
 
-// Whether a payload's rows were all written, and the stereo state after it.
-#[derive(Clone, Copy)]
-struct Printed {
-    written: bool,
-    state: State,
-}
-
 // What the k-th payload holds, from the state before it; the state after it comes back.
-fn print_details(
-    out: &impl Print,
-    ok: bool,
-    image: &[u8],
-    k: usize,
-    index: u8,
-    state: State,
-) -> Printed
+fn print_details(out: &impl Print, image: &[u8], k: usize, index: u8, state: State) -> Result<State>
     requires { (part_of image.now k).number ≡ 0 }
-    ensures { result.state ≡ state_from state k (bytes_of image.now k) }
+    ensures { IfOk result (λ next. next ≡ state_from state k (bytes_of image.now k)) }
 {
     let part = image::known_part(image, k);
-    let start = part.start;
-    let end = part.end;
-    let bytes = &image[start..end];
+    let bytes = &image[part.start..part.end];
     if k % 2 == 0 {
-        let written = channels::print_channel(out, ok, bytes, index);
-        return Printed { written, state };
+        channels::print_channel(out, bytes, index)?;
+        return Ok(state);
     }
-    stereos::print_stereo(out, ok, state, bytes)
+    stereos::print_stereo(out, state, bytes)
 }
 
 // The k-th payload's line, from its five numbers in the outline; in full with the place of a refusal.
-fn print_line(out: &impl Print, k: usize, rows: &[usize], full: bool) -> bool
+fn print_line(out: &impl Print, k: usize, rows: &[usize], full: bool) -> Result<()>
     requires { (k < 1024) × (5120 ≤ length rows.now) }
 {
     let at = 5 * k;
@@ -68,19 +53,19 @@ fn print_payload(
     rows: &[usize],
     full: bool,
     state: State,
-) -> Printed
+) -> Result<State>
     requires { (k < 1024) × (5120 ≤ length rows.now)
         × ((part_of image.now k).number ≡ 0) × (state ≡ printed_from full image.now k) }
-    ensures { result.state ≡ printed_after full state k (bytes_of image.now k) }
+    ensures { IfOk result (λ next. next ≡ printed_after full state k (bytes_of image.now k)) }
 {
-    let written = print_line(out, k, rows, full);
+    print_line(out, k, rows, full)?;
     if full {
-        return print_details(out, written, image, k, index, state);
+        return print_details(out, image, k, index, state);
     }
-    Printed { written, state }
+    Ok(state)
 }
 
-// The payloads of an image that has this outline, in their order, up to the first line that is not written; whether all were.
+// The payloads of an image that has this outline, in their order, up to the first line that is not written.
 fn print_payloads(
     out: &impl Print,
     image: &[u8],
@@ -88,39 +73,30 @@ fn print_payloads(
     index: u8,
     rows: &[usize],
     full: bool,
-) -> bool
+) -> Result<()>
     requires { (count ≤ 1024) × (5120 ≤ length rows.now)
         × (header_of image.now ≡ record { number = 0; count = count; index = index }) }
 {
     let mut state = states::fresh();
-    let mut k = 0;
-    while k < count {
-        let printed = print_payload(out, image, k, index, rows, full, state);
-        if !printed.written {
-            return false;
-        }
-        let next = printed.state;
-        state = next;
-        k += 1;
+    for k in 0..count {
+        state = print_payload(out, image, k, index, rows, full, state)?;
     }
-    true
+    Ok(())
 }
 
-// An image; the answer is whether every line was written.
-fn print_image(out: &impl Print, image: &[u8], full: bool) -> bool {
+// An image.
+fn print_image(out: &impl Print, image: &[u8], full: bool) -> Result<()> {
     let mut rows = [0usize; 5120];
     let header = image_outline::read_image(image, &mut rows);
     if header.number != 0 {
         return print_lines::say_refused_image(out, header.number);
     }
-    if !print_lines::say_count(out, header.count) {
-        return false;
-    }
+    print_lines::say_count(out, header.count)?;
     print_payloads(out, image, header.count, header.index, &rows, full)
 }
 
 // The first n bytes of the input; where they fill the buffer, the image is too long.
-fn print_read(out: &impl Print, buffer: &[u8], n: usize, full: bool) -> bool
+fn print_read(out: &impl Print, buffer: &[u8], n: usize, full: bool) -> Result<()>
     requires { IsPrefixLen n buffer.now }
 {
     if 65535 < n {
@@ -132,12 +108,11 @@ fn print_read(out: &impl Print, buffer: &[u8], n: usize, full: bool) -> bool
 // The image on standard input. A fault of the input or the output is told on standard error, of which tools/run makes an exit status.
 pub fn print_input(rt: &(impl Input + Print + Eprint), full: bool) {
     let mut image = io::large_buffer();
-    let input = input::read_input(&mut rt.reader(), &mut image);
-    if !input.readable {
+    let Ok(size) = input::read_input(&mut rt.reader(), &mut image) else {
         let _ = rt.eprintln("oarcradler: standard input cannot be read");
         return;
-    }
-    if !print_read(rt, &image, input.size, full) {
+    };
+    if print_read(rt, &image, size, full).is_err() {
         let _ = rt.eprintln("oarcradler: standard output cannot be written: lines are missing");
     }
 }

@@ -57,26 +57,26 @@ fn put_size_fault(line: &mut [u8], k: usize, byte: usize) -> usize
 pub fn tell_refused(err: &impl Print, k: usize, byte: usize, number: usize) {
     let mut line = [0u8; 2048];
     let at = put_refused_fault(&mut line, k, byte, number);
-    text::write_line(err, &mut line, at);
+    let _ = text::write_line(err, &mut line, at);
 }
 
 // That a frame's sampling index is not the first frame's is told.
 pub fn tell_index(err: &impl Print, k: usize, byte: usize, index: usize, first: usize) {
     let mut line = [0u8; 2048];
     let at = put_index_fault(&mut line, k, byte, index, first);
-    text::write_line(err, &mut line, at);
+    let _ = text::write_line(err, &mut line, at);
 }
 
 // That a frame's payloads are too many is told.
 pub fn tell_count(err: &impl Print, k: usize, byte: usize) {
     let mut line = [0u8; 2048];
     let at = put_count_fault(&mut line, k, byte);
-    text::write_line(err, &mut line, at);
+    let _ = text::write_line(err, &mut line, at);
 }
 
 // That a frame's stream is too long is told.
 pub fn tell_size(err: &impl Print, k: usize, byte: usize) {
     let mut line = [0u8; 2048];
     let at = put_size_fault(&mut line, k, byte);
-    text::write_line(err, &mut line, at);
+    let _ = text::write_line(err, &mut line, at);
 }

@@ -4,6 +4,7 @@ ghost use Rattle.print_lines.specs.InnerText.{HoldsLine};
 ghost use Rattle.print_lines.specs.InnerFrames.{frame_line, refused_frame};
 
 use crate::{places, put_line, text};
+use std::io;
 
 // The line of a frame that was accepted: where it starts, its length, and what its channel stream has.
 fn put_frame(
@@ -45,10 +46,10 @@ pub fn say_frame(
     gain: usize,
     lines: usize,
     bits: usize,
-) -> bool {
+) -> io::Result<()> {
     let mut line = [0u8; 2048];
     let at = put_frame(&mut line, k, byte, size, index, gain, lines, bits);
-    text::say(out, true, &mut line, at)
+    text::write_line(out, &mut line, at)
 }
 
 // The line of a frame that was refused is written.
@@ -58,8 +59,8 @@ pub fn say_refused_frame(
     byte: usize,
     number: usize,
     place: usize,
-) -> bool {
+) -> io::Result<()> {
     let mut line = [0u8; 2048];
     let at = put_refused_frame(&mut line, k, byte, number, place);
-    text::say(out, true, &mut line, at)
+    text::write_line(out, &mut line, at)
 }

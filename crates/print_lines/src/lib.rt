@@ -6,6 +6,8 @@ ghost use Rattle.std.specs.Prelude.{◌≡◌, ◌*◌, ◌<◌, ◌≤◌, leng
 ghost use Rattle.print_lines.specs.InnerText.{line_of, with_text, form_text, HoldsLine};
 ghost use Rattle.print_lines.specs.InnerListing.{refused_image, payload_count, refusal_text, refused_line, accepted_line, payload_line};
 
+use std::io;
+
 pub mod faults;
 pub mod frames;
 mod places;
@@ -93,22 +95,22 @@ fn put_payload(line: &mut [u8], told: bool, k: usize, p: Payload) -> usize
 }
 
 // The line of a bad image is written.
-pub fn say_refused_image(out: &impl Print, number: u8) -> bool {
+pub fn say_refused_image(out: &impl Print, number: u8) -> io::Result<()> {
     let mut line = [0u8; 1024];
     let at = put_refused_image(&mut line, number);
-    text::say(out, true, &mut line, at)
+    text::write_line(out, &mut line, at)
 }
 
 // The first line of a good one is written.
-pub fn say_count(out: &impl Print, count: usize) -> bool {
+pub fn say_count(out: &impl Print, count: usize) -> io::Result<()> {
     let mut line = [0u8; 1024];
     let at = put_count(&mut line, count);
-    text::say(out, true, &mut line, at)
+    text::write_line(out, &mut line, at)
 }
 
 // The line of a payload, from its five numbers, is written; the place of a refusal is told, or is not.
-pub fn say_payload(out: &impl Print, told: bool, k: usize, p: Payload) -> bool {
+pub fn say_payload(out: &impl Print, told: bool, k: usize, p: Payload) -> io::Result<()> {
     let mut line = [0u8; 1024];
     let at = put_payload(&mut line, told, k, p);
-    text::say(out, true, &mut line, at)
+    text::write_line(out, &mut line, at)
 }

@@ -19,10 +19,8 @@ pub fn put(line: &mut [u8], at: usize, words: &[u8]) -> usize
     ensures { line_of line.new result ≡ with_text (line_of line.old at) words.now }
 {
     let mut to = at;
-    let mut i = 0;
-    while i < words.len() {
-        to = put_byte(line, to, words[i]);
-        i += 1;
+    for byte in words {
+        to = put_byte(line, to, *byte);
     }
     to
 }
@@ -59,33 +57,20 @@ pub fn put_form(line: &mut [u8], at: usize, form: &[u8], numbers: &[usize]) -> u
         ≡ with_text (line_of line.old at) (form_text form.now numbers.now) }
 {
     let mut to = at;
-    let mut i = 0;
     let mut place = 0;
-    while i < form.len() {
-        let byte = form[i];
-        to = put_marked(line, to, byte, numbers, place);
-        i += 1;
-        if byte == b'#' {
+    for byte in form {
+        to = put_marked(line, to, *byte, numbers, place);
+        if *byte == b'#' {
             place += 1;
         }
     }
     to
 }
 
-// The line is ended and written to standard output or standard error; the answer is whether all of it was written.
-pub fn write_line(to: &impl Print, line: &mut [u8], at: usize) -> bool
+// The line is ended and written to standard output or standard error.
+pub fn write_line(to: &impl Print, line: &mut [u8], at: usize) -> std::io::Result<()>
     requires { at < length line.old }
 {
     line[at] = b'\n';
-    to.write_all(&line[..at + 1]).is_ok()
-}
-
-// The line is ended and written to standard output where all lines before it were; the answer is whether all of it was written.
-pub fn say(out: &impl Print, ok: bool, line: &mut [u8], at: usize) -> bool
-    requires { at < length line.old }
-{
-    if !ok {
-        return false;
-    }
-    write_line(out, line, at)
+    to.write_all(&line[..at + 1])
 }

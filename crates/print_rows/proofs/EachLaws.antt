@@ -5,11 +5,12 @@ use mathlib.Core.Path.{◌≡◌, sym, ap, ◌∙◌}
 use mathlib.Core.List.{List, [], ◌∷◌, ◌++◌}
 use mathlib.Core.Bool.{Bool, true, false}
 use native.Mathlib.Omega.{arith}
+use native.Mathlib.Decide.{dec_le}
 use native.Mathlib.Numerals.{add-one}
 use lib.Dec.{eqb}
 use lib.IntN.{ℤ, pos, negsuc, nat_abs}
 use lib.ListN.{length, take, drop, get_or, length-append, length-take, drop_of_length-le}
-use lib.Seq.{drop-cons, get_or-take}
+use lib.Seq.{drop-cons, take_all}
 use Rattle.bits.specs.Reader.{pick}
 use Rattle.print_lines.specs.InnerText.{Line, with_text, number_text, form_text, line}
 use Rattle.print_lines.proofs.TextLaws.{text_after, number-few, number_short}
@@ -50,18 +51,17 @@ indices_from zs i = each (λ place z. next_index z) i (drop i zs)
 abbrev pub values_from : List ℤ → ℕ → List ℕ
 values_from zs i = each value_text i (drop i zs)
 
--- the first n numbers of a list, from the i-th on
-abbrev pub numbers_from : List ℕ → ℕ → ℕ → List ℕ
-numbers_from xs n i = each (λ place x. next_number x) i (drop i (take n xs))
+-- the numbers of a list, from the i-th on
+abbrev pub numbers_from : List ℕ → ℕ → List ℕ
+numbers_from xs i = each (λ place x. next_number x) i (drop i xs)
 
-module _ (l : Line) (xs : List ℕ) (n i : ℕ) where
-  pub number-turn : (m : Line) → i < n → i < length xs → m ≡ with_text l (next_number (get_or xs i 0))
-      → with_text m (numbers_from xs n (i + 1)) ≡ with_text l (numbers_from xs n i)
-  number-turn m h k e =
-      each_turn (λ place x. next_number x) l m (take n xs) i 0 (rw (length-take n xs) (omega arith)) (rw (get_or-take n xs i 0 h) e)
-
-  pub number-last : min n (length xs) ≤ i → l ≡ with_text l (numbers_from xs n i)
-  number-last h = each_last (λ place x. next_number x) l (take n xs) i (rw (length-take n xs) h)
+-- the first n of a list, which may have fewer
+pub first_few : {A : Type 0} (n m : ℕ) (xs : List A) → m ≡ min n (length xs) → take m xs ≡ take n xs
+first_few n m xs e =
+    elim (dec_le n (length xs)) [
+      | yes h ↦ ap (λ (k : ℕ). take k xs) (omega arith)
+      | no h ↦ take_all m xs (omega arith) ∙ sym (take_all n xs (omega arith))
+    ]
 
 -- a number takes at most 20 bytes, and an index a sign more
 next-number-short : (n : ℕ) → length (next_number n) ≤ 21

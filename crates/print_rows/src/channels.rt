@@ -6,6 +6,7 @@ ghost use Rattle.print_rows.specs.InnerChannelRows.{band_count, window_row, band
 use crate::lists;
 use channel::Reading;
 use print_lines::text;
+use std::io;
 
 // How many books and scale factors there are: so many bands in each group.
 fn band_count(r: Reading) -> usize
@@ -66,21 +67,20 @@ fn put_values(line: &mut [u8], lines: &[i16]) -> usize
 // The window information, the books and scale factors, and the lines.
 pub fn print_reading(
     out: &impl Print,
-    ok: bool,
     r: Reading,
     lines: &[i16],
     factors: &[u8],
     books: &[u8],
-) -> bool
+) -> io::Result<()>
     requires { (length lines.now ≤ 1024) × (length factors.now ≤ 120) × (length books.now ≤ 120) }
 {
     let mut line = [0u8; 16384];
     let at = put_window(&mut line, r);
-    let ok = text::say(out, ok, &mut line, at);
+    text::write_line(out, &mut line, at)?;
     let at = put_books(&mut line, r, books);
-    let ok = text::say(out, ok, &mut line, at);
+    text::write_line(out, &mut line, at)?;
     let at = put_factors(&mut line, r, factors);
-    let ok = text::say(out, ok, &mut line, at);
+    text::write_line(out, &mut line, at)?;
     let at = put_values(&mut line, lines);
-    text::say(out, ok, &mut line, at)
+    text::write_line(out, &mut line, at)
 }

@@ -5,6 +5,7 @@ ghost use Rattle.print_rows.specs.InnerStereoRows.{header_row, border_count, fra
 
 use crate::{envelopes, lists, marks};
 use print_lines::{put_line, text};
+use std::io;
 use stereo::{Contents, Extension, Frame, Header, Part, Setup};
 
 // The header.
@@ -74,13 +75,13 @@ fn put_extension(line: &mut [u8], x: Extension) -> usize
 }
 
 // The contents, from the set-up after them.
-pub fn print_contents(out: &impl Print, ok: bool, contents: Contents, setup: Setup) -> bool {
+pub fn print_contents(out: &impl Print, contents: Contents, setup: Setup) -> io::Result<()> {
     let mut line = [0u8; 2048];
     let at = put_header(&mut line, contents.header);
-    let ok = text::say(out, ok, &mut line, at);
+    text::write_line(out, &mut line, at)?;
     let at = put_frame(&mut line, contents.frame);
-    let ok = text::say(out, ok, &mut line, at);
-    let ok = envelopes::print_envelopes(out, ok, &mut line, contents, setup);
+    text::write_line(out, &mut line, at)?;
+    envelopes::print_envelopes(out, &mut line, contents, setup)?;
     let at = put_extension(&mut line, contents.extension);
-    text::say(out, ok, &mut line, at)
+    text::write_line(out, &mut line, at)
 }

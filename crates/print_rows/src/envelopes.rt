@@ -8,6 +8,7 @@ ghost use Rattle.print_rows.specs.InnerEnvelopeRows.{envelope_row, iid_row, icc_
 
 use crate::{lists, marks};
 use print_lines::{put_line, text};
+use std::io;
 use stereo::{Contents, Phases, Setup};
 use stereo_indices::Row;
 
@@ -99,58 +100,52 @@ fn put_opd(line: &mut [u8], contents: Contents, e: usize) -> usize
 }
 
 // The level and coherence indices of the e-th envelope.
-fn print_levels(out: &impl Print, ok: bool, line: &mut [u8], contents: Contents, e: usize) -> bool
+fn print_levels(out: &impl Print, line: &mut [u8], contents: Contents, e: usize) -> io::Result<()>
     requires { (2048 ≤ length line.old) × (e < 4) }
 {
     let at = put_iid(line, contents, e);
-    let ok = text::say(out, ok, line, at);
+    text::write_line(out, line, at)?;
     let at = put_icc(line, contents, e);
-    text::say(out, ok, line, at)
+    text::write_line(out, line, at)
 }
 
 // The phase indices of the e-th envelope.
-fn print_phases(out: &impl Print, ok: bool, line: &mut [u8], contents: Contents, e: usize) -> bool
+fn print_phases(out: &impl Print, line: &mut [u8], contents: Contents, e: usize) -> io::Result<()>
     requires { (2048 ≤ length line.old) × (e < 4) }
 {
     let at = put_ipd(line, contents, e);
-    let ok = text::say(out, ok, line, at);
+    text::write_line(out, line, at)?;
     let at = put_opd(line, contents, e);
-    text::say(out, ok, line, at)
+    text::write_line(out, line, at)
 }
 
 // The e-th envelope: how its kinds were coded, and their indices.
 fn print_envelope(
     out: &impl Print,
-    ok: bool,
     line: &mut [u8],
     contents: Contents,
     setup: Setup,
     e: usize,
-) -> bool
+) -> io::Result<()>
     requires { (2048 ≤ length line.old) × (e < 4) }
 {
     let at = put_envelope(line, contents, setup, e);
-    let ok = text::say(out, ok, line, at);
-    let ok = print_levels(out, ok, line, contents, e);
-    print_phases(out, ok, line, contents, e)
+    text::write_line(out, line, at)?;
+    print_levels(out, line, contents, e)?;
+    print_phases(out, line, contents, e)
 }
 
 // The envelopes, of which there are at most four.
 pub fn print_envelopes(
     out: &impl Print,
-    before: bool,
     line: &mut [u8],
     contents: Contents,
     setup: Setup,
-) -> bool
+) -> io::Result<()>
     requires { 2048 ≤ length line.old }
 {
-    let count = contents.frame.envelopes;
-    let mut ok = before;
-    let mut e = 0;
-    while e < 4 && e < count {
-        ok = print_envelope(out, ok, line, contents, setup, e);
-        e += 1;
+    for e in 0..contents.frame.envelopes.min(4) {
+        print_envelope(out, line, contents, setup, e)?;
     }
-    ok
+    Ok(())
 }

@@ -1,5 +1,5 @@
 // As many numbers as there are, one after another. Each `put` answers the place after what it put.
-ghost use Rattle.std.specs.Prelude.{◌≡◌, ◌+◌, ◌*◌, ◌/◌, ◌%◌, ◌^◌, ◌<◌, ◌≤◌, min, length, take};
+ghost use Rattle.std.specs.Prelude.{◌≡◌, ◌+◌, ◌*◌, ◌/◌, ◌%◌, ◌^◌, ◌<◌, ◌≤◌, length, take};
 ghost use Rattle.io.specs.Digits.{hex_digit_ascii};
 ghost use Rattle.print_lines.specs.InnerText.{line_of, with_text};
 ghost use Rattle.print_rows.specs.InnerEach.{next_number, numbers_text, next_index, indices_text, value_text, values_text};
@@ -21,11 +21,10 @@ pub fn put_bytes(line: &mut [u8], at: usize, numbers: &[u8], n: usize) -> usize
     ensures { line_of line.new result
         ≡ with_text (line_of line.old at) (numbers_text (take n numbers.now)) }
 {
+    let first = &numbers[..n.min(numbers.len())];
     let mut to = at;
-    let mut i = 0;
-    while i < n && i < numbers.len() {
-        to = put_next(line, to, numbers[i] as usize);
-        i += 1;
+    for number in first {
+        to = put_next(line, to, *number as usize);
     }
     to
 }
@@ -35,11 +34,10 @@ pub fn put_numbers(line: &mut [u8], at: usize, numbers: &[u32], n: usize) -> usi
     ensures { line_of line.new result
         ≡ with_text (line_of line.old at) (numbers_text (take n numbers.now)) }
 {
+    let first = &numbers[..n.min(numbers.len())];
     let mut to = at;
-    let mut i = 0;
-    while i < n && i < numbers.len() {
-        to = put_next(line, to, numbers[i] as usize);
-        i += 1;
+    for number in first {
+        to = put_next(line, to, *number as usize);
     }
     to
 }
@@ -57,10 +55,8 @@ pub fn put_indices(line: &mut [u8], at: usize, indices: &[i8]) -> usize
     ensures { line_of line.new result ≡ with_text (line_of line.old at) (indices_text indices.now) }
 {
     let mut to = at;
-    let mut i = 0;
-    while i < indices.len() {
-        to = put_index(line, to, indices[i]);
-        i += 1;
+    for index in indices {
+        to = put_index(line, to, *index);
     }
     to
 }
@@ -85,10 +81,8 @@ pub fn put_values(line: &mut [u8], at: usize, lines: &[i16]) -> usize
         × (result ≤ at + 12 * length lines.now) }
 {
     let mut to = at;
-    let mut i = 0;
-    while i < lines.len() {
-        to = put_value(line, to, i, lines[i]);
-        i += 1;
+    for (place, value) in lines.iter().enumerate() {
+        to = put_value(line, to, place, *value);
     }
     to
 }
@@ -101,16 +95,6 @@ fn bit_of(value: u32, k: usize) -> u8
     48 + ((value >> k) % 2) as u8
 }
 
-// A count of a number's bits, of which it has 32.
-fn bit_count(count: usize) -> usize
-    ensures { result ≡ min count 32 }
-{
-    if count < 32 {
-        return count;
-    }
-    32
-}
-
 // The last count bits of a number, or a dash where there are none.
 pub fn put_fill(line: &mut [u8], at: usize, value: u32, count: usize) -> usize
     ensures { line_of line.new result ≡ with_text (line_of line.old at) (fill_text value count) }
@@ -119,10 +103,8 @@ pub fn put_fill(line: &mut [u8], at: usize, value: u32, count: usize) -> usize
         return text::put_byte(line, at, b'-');
     }
     let mut to = at;
-    let mut left = bit_count(count);
-    while 0 < left {
-        left -= 1;
-        to = text::put_byte(line, to, bit_of(value, left));
+    for k in (0..count.min(32)).rev() {
+        to = text::put_byte(line, to, bit_of(value, k));
     }
     to
 }

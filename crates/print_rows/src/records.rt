@@ -5,6 +5,7 @@ ghost use Rattle.print_rows.specs.InnerStateRows.{state_row, record_row, iid_rec
 
 use crate::{lists, marks};
 use print_lines::{put_line, text};
+use std::io;
 use stereo::State;
 use stereo_indices::Record;
 
@@ -73,16 +74,16 @@ fn put_opd_record(line: &mut [u8], state: State) -> usize
 }
 
 // The set-up, the mark, and the four records.
-pub fn print_state(out: &impl Print, ok: bool, state: State) -> bool {
+pub fn print_state(out: &impl Print, state: State) -> io::Result<()> {
     let mut line = [0u8; 2048];
     let at = put_state(&mut line, state);
-    let ok = text::say(out, ok, &mut line, at);
+    text::write_line(out, &mut line, at)?;
     let at = put_iid_record(&mut line, state);
-    let ok = text::say(out, ok, &mut line, at);
+    text::write_line(out, &mut line, at)?;
     let at = put_icc_record(&mut line, state);
-    let ok = text::say(out, ok, &mut line, at);
+    text::write_line(out, &mut line, at)?;
     let at = put_ipd_record(&mut line, state);
-    let ok = text::say(out, ok, &mut line, at);
+    text::write_line(out, &mut line, at)?;
     let at = put_opd_record(&mut line, state);
-    text::say(out, ok, &mut line, at)
+    text::write_line(out, &mut line, at)
 }

@@ -9,11 +9,7 @@ use print_lines::text;
 pub fn magnitude(n: i16) -> usize
     ensures { result ≡ nat_abs n }
 {
-    let wide = n as i64;
-    if wide < 0 {
-        return (0 - wide) as usize;
-    }
-    wide as usize
+    n.unsigned_abs() as usize
 }
 
 // The sign of a number below 0.

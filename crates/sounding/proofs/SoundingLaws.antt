@@ -1,45 +1,54 @@
--- One line more.
+-- The lines that sound are those that are not 0.
 -- Assumes nothing.
-use Prim.Native.Nat.{ℕ, zero, suc, ◌+◌, ◌-◌, ◌≤◌, ◌<◌, ◌^◌}
-use mathlib.Core.Path.{◌≡◌, refl}
+use Prim.Native.Nat.{ℕ, zero, suc, ◌+◌}
+use mathlib.Core.Path.{◌≡◌, refl, sym, ◌∙◌, ap}
+use mathlib.Core.Bool.{Bool, true, false, not, cond}
 use mathlib.Core.List.{List, ◌∷◌}
 use native.Mathlib.Omega.{arith}
-use borrow.Author.Tests.{eq-eqb, ne_eqb}
 use lib.IntN.{ℤ, pos, negsuc, nat_abs}
-use lib.ListN.{length, drop, get_or, replicate}
-use lib.Seq.{drop-length, drop-cons}
-use mir.Syntax.{w16}
-use mir.Val.{SFits, of_z}
+use lib.Dec.{eqb}
+use borrow.Author.Tests.{eqb-true, eq-eqb}
+use Rattle.bits.specs.Reader.{pick}
+use Rattle.std.specs.Cmp.{signed_Decides}
+use lib.ListN.{replicate}
+use Rattle.std.specs.Ordering.{int_eq}
+use Rattle.std.specs.List.{count_by}
+use Rattle.std.proofs.lemmas.List.Recursion.{is_count_by}
 use Rattle.sounding.specs.Sounding.{sounding}
 
-pub sounding-none : (xs : List ℤ) → 0 ≡ sounding (drop (length xs) xs)
+-- whether a line sounds
+abbrev pub sounds : ℤ → Bool
+sounds x = not (int_eq x (pos 0))
+
+-- a line is 0 where its magnitude is
+zero_is : (x : ℤ) → nat_abs x ≡ 0 → x ≡ pos 0
+zero_is (pos n) e = ap pos e
+zero_is (negsuc n) e = absurd (omega arith)
+
+silent : (x : ℤ) → eqb (nat_abs x) 0 ≡ int_eq x (pos 0)
+silent x =
+    alike (eqb (nat_abs x) 0) (int_eq x (pos 0))
+    (λ e. (signed_Decides x (pos 0)).1 (zero_is x (eqb-true (nat_abs x) 0 e)))
+    (λ e. eq-eqb (nat_abs x) 0 (ap nat_abs ((signed_Decides x (pos 0)).0 e)))
+  where
+    alike : (p q : Bool) → (p ≡ true → q ≡ true) → (q ≡ true → p ≡ true) → p ≡ q
+    alike true q f g = sym (f refl)
+    alike false true f g = g refl
+    alike false false f g = refl
+
+turned : (b : Bool) (n : ℕ) → pick b n (n + 1) ≡ cond (not b) (1 + n) n
+turned true n = refl
+turned false n = omega arith
+
+one_more : (x : ℤ) (xs : List ℤ) → sounding (x ∷ xs) ≡ cond (sounds x) (1 + sounding xs) (sounding xs)
 unfolding sounding
-sounding-none xs = rw (drop-length xs)
+one_more x xs =
+    let n = sounding xs in
+    turned (eqb (nat_abs x) 0) n ∙ ap (λ (b : Bool). cond (not b) (1 + n) n) (silent x)
 
-cut : (xs : List ℤ) (i : ℕ) → 0 < i → i ≤ length xs → drop (i - 1) xs ≡ get_or xs (i - 1) (pos 0) ∷ drop i xs
-cut xs i h k =
-    let e : suc (i - 1) ≡ i = omega arith in
-    rw (drop-cons xs (i - 1) (pos 0) (omega arith), e)
-
-pub sounding-more : (xs : List ℤ) (i n : ℕ) → 0 < i → i ≤ length xs → n ≡ sounding (drop i xs) →
-    (nat_abs (get_or xs (i - 1) (pos 0)) ≡ 0 → ⊥)
-    → n + 1 ≡ sounding (drop (i - 1) xs)
+pub counted : (xs : List ℤ) → count_by sounds xs ≡ sounding xs
 unfolding sounding
-sounding-more xs i n h k e z = rw (cut xs i h k, ne_eqb _ 0 z, e)
-
-pub sounding-same : (xs : List ℤ) (i n : ℕ) → 0 < i → i ≤ length xs → n ≡ sounding (drop i xs) → nat_abs (get_or xs (i - 1) (pos 0)) ≡ 0
-    → n ≡ sounding (drop (i - 1) xs)
-unfolding sounding
-sounding-same xs i n h k e z = rw (cut xs i h k, eq-eqb _ 0 z, e)
-
--- a line is 0 where its bits are
-pub silent : (x : ℤ) → SFits w16 x → of_z w16 x ≡ 0 → nat_abs x ≡ 0
-silent (pos n) f e = e
-silent (negsuc n) f e = let h : n < 2 ^ 15 = f.sfits in absurd (omega arith)
-
-pub silent-bits : (x : ℤ) → nat_abs x ≡ 0 → of_z w16 x ≡ 0
-silent-bits (pos n) e = e
-silent-bits (negsuc n) e = absurd (omega arith)
+counted xs = sym (is_count_by sounding sounds refl one_more xs)
 
 pub sounding-zeros : (n : ℕ) → sounding (replicate n (pos 0)) ≡ 0
 unfolding sounding

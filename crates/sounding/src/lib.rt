@@ -8,15 +8,7 @@ ghost use Rattle.sounding.specs.Sounding.{sounding};
 pub fn count_sounding(lines: &[i16]) -> usize
     ensures { result ≡ sounding lines.now }
 {
-    let mut n = 0;
-    let mut i = lines.len();
-    while 0 < i {
-        i -= 1;
-        if lines[i] != 0 {
-            n += 1;
-        }
-    }
-    n
+    lines.iter().filter(|line| **line != 0).count()
 }
 
 // 1,024 lines of 0.

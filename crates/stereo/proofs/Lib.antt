@@ -1,9 +1,7 @@
-pub mod HeaderLaws
-pub mod FrameLaws
 pub mod ExtensionLaws
-pub mod ContentsLaws
 pub mod TurnLaws
 pub mod PayloadLaws
 pub mod PayloadNear
 pub mod All
 pub mod StateLaws
+pub mod Opened

@@ -1,22 +1,15 @@
 -- Elements of arrays: where an index is in reach, what stands past the end does not count.
 -- Assumes nothing.
-use Prim.Native.Nat.{ℕ, zero, suc, ◌-◌, ◌<◌, ◌≤◌}
+use Prim.Native.Nat.{ℕ, zero, suc, ◌<◌}
 use mathlib.Core.Path.{◌≡◌, refl}
 use mathlib.Core.List.{List, [], ◌∷◌}
 use native.Mathlib.Omega.{arith}
-use lib.ListN.{length, get_or, get_or-eq_default}
+use lib.ListN.{length, get_or}
 
 pub get_d_there : {A : Type 0} (xs : List A) (i : ℕ) (d e : A) → i < length xs → get_or xs i d ≡ get_or xs i e
 get_d_there [] i d e h = absurd (omega arith)
 get_d_there (x ∷ xs) zero d e h = refl
 get_d_there (x ∷ xs) (suc i) d e h = get_d_there xs i d e (omega arith)
-
--- the last of n in a list of four, by its place; past four there is none
-pub last-there : {A : Type 0} (xs : List A) (n k : ℕ) (d e : A) → length xs ≡ 4 → k < 4 → n - 1 ≡ k → get_or xs k d ≡ get_or xs (n - 1) e
-last-there xs n k d e l h q = rw q (get_d_there xs k d e (omega arith))
-
-pub last_gone : {A : Type 0} (xs : List A) (n : ℕ) (e : A) → length xs ≡ 4 → 4 ≤ n - 1 → get_or xs (n - 1) e ≡ e
-last_gone xs n e l h = let g : length xs ≤ n - 1 = omega arith in get_or-eq_default xs e {n = n - 1} g
 
 -- four elements, one by one
 pub of_four : {A : Type 0} (z : A) (xs : List A) → length xs ≡ 4 → get_or xs 0 z ∷ get_or xs 1 z ∷ get_or xs 2 z ∷ get_or xs 3 z ∷ [] ≡ xs

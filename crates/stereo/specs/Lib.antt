@@ -5,4 +5,3 @@ pub mod Extension
 pub mod Payload
 pub mod Carried
 pub mod Restart
-pub mod InnerAnswers

@@ -1,12 +1,13 @@
 // The frame: its class, the envelopes and their borders.
-ghost use Rattle.std.specs.Prelude.{◌≡◌, ◌*◌, ◌≤◌, ◌<◌, length};
-ghost use Rattle.bits.specs.InnerAnswers.{ended_answer, passed_on};
+ghost use Rattle.std.specs.Prelude.{◌≡◌, ◌≤◌, ◌<◌, IfOk};
+ghost use Rattle.bits.specs.InnerAnswers.{answer_of, reads};
 ghost use Rattle.stereo.specs.Frame.{envelope_count, no_borders, borders_of, borders, no_frame, frame};
 
-use crate::{Frame, ReadBorders, ReadFrame};
-use bits::{Ended, Field};
+use crate::Frame;
+use bits::{Answer, Bits};
 
 // The number of envelopes.
+#[tactic(auto, unfolding(crate::specs::Frame::envelope_count))]
 fn envelope_count(class: u32, i: u32) -> usize
     requires { i < 4 }
     ensures { (result ≡ envelope_count class i) × (result ≤ 4) }
@@ -21,6 +22,7 @@ fn envelope_count(class: u32, i: u32) -> usize
 }
 
 // No borders.
+#[tactic(auto, unfolding(crate::specs::Frame::no_borders))]
 fn no_borders() -> [u32; 4]
     ensures { result ≡ no_borders }
 {
@@ -28,44 +30,34 @@ fn no_borders() -> [u32; 4]
 }
 
 // A border for each of n envelopes.
-fn read_borders_of(s: &[u8], at: usize, end: usize, n: usize) -> ReadBorders
-    requires { (end ≤ 8 * length s.now) × (n ≤ 4) }
-    ensures { ended_answer result.ended result.borders ≡ borders_of n s.now at end }
+fn read_borders_of(s: &Bits, at: usize, n: usize) -> Answer<[u32; 4]>
+    requires { n ≤ 4 }
+    ensures { answer_of result ≡ reads (borders_of n) s.now at }
 {
     let mut borders = no_borders();
     let mut place = at;
-    let mut k = 0;
-    while k < n {
-        match bits::read_field(s, place, end, 5) {
-            Field::Got(border, next) => {
-                borders[k] = border;
-                place = next;
-            }
-            Field::Refused(number, at) => {
-                let ended = Ended::Refused(number, at);
-                return ReadBorders { ended, borders };
-            }
-        }
-        k += 1;
+    for k in 0..n {
+        let (border, next) = s.field(place, 5)?;
+        borders[k] = border;
+        place = next;
     }
-    let ended = Ended::At(place);
-    ReadBorders { ended, borders }
+    Ok((borders, place))
 }
 
 // The borders, where they are variable.
-fn read_borders(s: &[u8], at: usize, end: usize, class: u32, n: usize) -> ReadBorders
-    requires { (end ≤ 8 * length s.now) × (n ≤ 4) }
-    ensures { ended_answer result.ended result.borders ≡ borders class n s.now at end }
+#[tactic(auto, unfolding(crate::specs::Frame::borders))]
+fn read_borders(s: &Bits, at: usize, class: u32, n: usize) -> Answer<[u32; 4]>
+    requires { n ≤ 4 }
+    ensures { answer_of result ≡ reads (borders class n) s.now at }
 {
-    if class == 1 {
-        return read_borders_of(s, at, end, n);
+    if class != 1 {
+        return Ok((no_borders(), at));
     }
-    let ended = Ended::At(at);
-    let borders = no_borders();
-    ReadBorders { ended, borders }
+    read_borders_of(s, at, n)
 }
 
 // No frame.
+#[tactic(auto, unfolding(crate::specs::Frame::no_frame))]
 pub fn no_frame() -> Frame
     ensures { result ≡ no_frame }
 {
@@ -77,36 +69,19 @@ pub fn no_frame() -> Frame
     }
 }
 
-// A frame that is refused, by the field that is.
-fn refused_frame(f: Field) -> ReadFrame
-    ensures { (result.ended ≡ passed_on f) × (result.frame.envelopes ≤ 4) }
-{
-    let ended = bits::passed_on(f);
-    let frame = no_frame();
-    ReadFrame { ended, frame }
-}
-
 // The frame: at most 4 envelopes.
-pub fn read_frame(s: &[u8], at: usize, end: usize) -> ReadFrame
-    requires { end ≤ 8 * length s.now }
-    ensures { (ended_answer result.ended result.frame ≡ frame s.now at end) × (result.frame.envelopes ≤ 4) }
+#[tactic(auto, unfolding(crate::specs::Frame::frame))]
+pub fn read_frame(s: &Bits, at: usize) -> Answer<Frame>
+    ensures { (answer_of result ≡ reads frame s.now at) × IfOk result (λ read. read.0.envelopes ≤ 4) }
 {
-    let class_field = bits::read_field(s, at, end, 1);
-    let Field::Got(class, after_class) = class_field else {
-        return refused_frame(class_field);
-    };
-    let index_field = bits::read_field(s, after_class, end, 2);
-    let Field::Got(index, after_index) = index_field else {
-        return refused_frame(index_field);
-    };
+    let (class, after_class) = s.field(at, 1)?;
+    let (index, after_index) = s.field(after_class, 2)?;
     let envelopes = envelope_count(class, index);
-    let read = read_borders(s, after_index, end, class, envelopes);
-    let ended = read.ended;
-    let borders = read.borders;
+    let (borders, next) = read_borders(s, after_index, class, envelopes)?;
     let frame = Frame {
         class,
         envelopes,
         borders,
     };
-    ReadFrame { ended, frame }
+    Ok((frame, next))
 }

@@ -1,12 +1,14 @@
 // The header, and what it puts in force.
-ghost use Rattle.std.specs.Prelude.{◌≡◌, ◌*◌, ◌≤◌, length};
-ghost use Rattle.bits.specs.InnerAnswers.{field_answer, ended_answer, passed_on};
+ghost use Rattle.std.specs.Prelude.{◌≡◌};
+ghost use Rattle.bits.specs.InnerAnswers.{answer_of, reads};
 ghost use Rattle.stereo.specs.Header.{no_header, mode, switch, header_fields, header, flag_after, mode_after, setup_after};
 
-use crate::{Header, ReadHeader, ReadSwitch, Setup, Switch};
-use bits::{Ended, Field};
+use crate::{Header, Setup, Switch};
+use bits::fields::at_most;
+use bits::{Answer, Bits};
 
 // The fields of no header.
+#[tactic(auto, unfolding(crate::specs::Header::no_header))]
 pub fn no_header() -> Header
     ensures { result ≡ no_header }
 {
@@ -21,81 +23,34 @@ pub fn no_header() -> Header
 }
 
 // A mode after its enable bit; 6 and 7 are reserved.
-fn read_mode(s: &[u8], at: usize, end: usize, on: u32) -> Field
-    requires { end ≤ 8 * length s.now }
-    ensures { field_answer result ≡ mode on s.now at end }
+#[tactic(auto, unfolding(crate::specs::Header::mode))]
+fn read_mode(s: &Bits, at: usize, on: u32) -> Answer<u32>
+    ensures { answer_of result ≡ reads (mode on) s.now at }
 {
     if on != 1 {
-        return Field::Got(0, at);
+        return Ok((0, at));
     }
-    match bits::read_field(s, at, end, 3) {
-        Field::Got(mode, next) => {
-            if mode <= 5 {
-                return Field::Got(mode, next);
-            }
-            Field::Refused(13, at)
-        }
-        Field::Refused(number, place) => Field::Refused(number, place),
-    }
-}
-
-// An enable bit and its mode that are refused, by the field that is.
-fn refused_switch(f: Field) -> ReadSwitch
-    ensures { result.ended ≡ passed_on f }
-{
-    let ended = bits::passed_on(f);
-    let switch = Switch { on: 0, mode: 0 };
-    ReadSwitch { ended, switch }
+    at_most(s.field(at, 3), 5, 13, at)
 }
 
 // An enable bit and its mode.
-fn read_switch(s: &[u8], at: usize, end: usize) -> ReadSwitch
-    requires { end ≤ 8 * length s.now }
-    ensures { ended_answer result.ended result.switch ≡ switch s.now at end }
+#[tactic(auto, unfolding(crate::specs::Header::switch))]
+fn read_switch(s: &Bits, at: usize) -> Answer<Switch>
+    ensures { answer_of result ≡ reads switch s.now at }
 {
-    let flag = bits::read_field(s, at, end, 1);
-    let Field::Got(on, after_flag) = flag else {
-        return refused_switch(flag);
-    };
-    let sent = read_mode(s, after_flag, end, on);
-    let Field::Got(mode, after_mode) = sent else {
-        return refused_switch(sent);
-    };
-    let ended = Ended::At(after_mode);
-    let switch = Switch { on, mode };
-    ReadSwitch { ended, switch }
-}
-
-// A header that is refused, by how its reading ended.
-fn refused_header(ended: Ended) -> ReadHeader
-    ensures { result.ended ≡ ended }
-{
-    let header = no_header();
-    ReadHeader { ended, header }
+    let (on, after_on) = s.field(at, 1)?;
+    let (mode, next) = read_mode(s, after_on, on)?;
+    Ok((Switch { on, mode }, next))
 }
 
 // The header's fields, after its flag.
-fn read_header_fields(s: &[u8], at: usize, end: usize) -> ReadHeader
-    requires { end ≤ 8 * length s.now }
-    ensures { ended_answer result.ended result.header ≡ header_fields s.now at end }
+#[tactic(auto, unfolding(crate::specs::Header::header_fields))]
+fn read_header_fields(s: &Bits, at: usize) -> Answer<Header>
+    ensures { answer_of result ≡ reads header_fields s.now at }
 {
-    let level = read_switch(s, at, end);
-    let iid = level.switch;
-    let level_ended = level.ended;
-    let Ended::At(after_iid) = level_ended else {
-        return refused_header(level_ended);
-    };
-    let coherence = read_switch(s, after_iid, end);
-    let icc = coherence.switch;
-    let coherence_ended = coherence.ended;
-    let Ended::At(after_icc) = coherence_ended else {
-        return refused_header(coherence_ended);
-    };
-    let flag = bits::read_field(s, after_icc, end, 1);
-    let Field::Got(ext, after_ext) = flag else {
-        return refused_header(bits::passed_on(flag));
-    };
-    let ended = Ended::At(after_ext);
+    let (iid, after_iid) = read_switch(s, at)?;
+    let (icc, after_icc) = read_switch(s, after_iid)?;
+    let (ext, next) = s.field(after_icc, 1)?;
     let header = Header {
         there: 1,
         iid: iid.on,
@@ -104,24 +59,19 @@ fn read_header_fields(s: &[u8], at: usize, end: usize) -> ReadHeader
         iccmode: icc.mode,
         ext,
     };
-    ReadHeader { ended, header }
+    Ok((header, next))
 }
 
 // The header, or its flag at 0.
-pub fn read_header(s: &[u8], at: usize, end: usize) -> ReadHeader
-    requires { end ≤ 8 * length s.now }
-    ensures { ended_answer result.ended result.header ≡ header s.now at end }
+#[tactic(auto, unfolding(crate::specs::Header::header))]
+pub fn read_header(s: &Bits, at: usize) -> Answer<Header>
+    ensures { answer_of result ≡ reads header s.now at }
 {
-    let f = bits::read_field(s, at, end, 1);
-    let Field::Got(there, next) = f else {
-        return refused_header(bits::passed_on(f));
-    };
-    if there == 1 {
-        return read_header_fields(s, next, end);
+    let (there, next) = s.field(at, 1)?;
+    if there != 1 {
+        return Ok((no_header(), next));
     }
-    let ended = Ended::At(next);
-    let header = no_header();
-    ReadHeader { ended, header }
+    read_header_fields(s, next)
 }
 
 // A flag after a header.
@@ -145,6 +95,7 @@ fn mode_after(on: u32, new: u32, old: u32) -> u32
 }
 
 // What is in force after a header.
+#[tactic(auto, unfolding(crate::specs::Header::setup_after))]
 pub fn setup_after(setup: Setup, header: Header) -> Setup
     ensures { result ≡ setup_after setup header }
 {

@@ -6,6 +6,7 @@ use crate::{Setup, State};
 use stereo_indices::{Kind, records};
 
 // The state before any payload.
+#[tactic(auto, unfolding(crate::specs::State::fresh, crate::specs::State::fresh_setup))]
 pub fn fresh() -> State
     ensures { FreshPromise result }
 {
@@ -31,57 +32,38 @@ pub fn fresh() -> State
 fn has_mode(on: bool, mode: u32) -> bool
     ensures { result ≡ not on || is_sent mode }
 {
-    if on {
-        return mode != 7;
-    }
-    true
+    !on || mode != 7
 }
 
 // Whether a set-up is sound.
+#[tactic(auto, unfolding(crate::specs::State::sound_setup))]
 fn is_sound_setup(setup: Setup) -> bool
     ensures { result ≡ sound_setup setup }
 {
-    if !records::is_mode(setup.iidmode) {
-        return false;
-    }
-    if !records::is_mode(setup.iccmode) {
-        return false;
-    }
-    if !has_mode(setup.iid, setup.iidmode) {
-        return false;
-    }
-    has_mode(setup.icc, setup.iccmode)
+    records::is_mode(setup.iidmode)
+        && records::is_mode(setup.iccmode)
+        && has_mode(setup.iid, setup.iidmode)
+        && has_mode(setup.icc, setup.iccmode)
 }
 
 // Whether a state is sound.
+#[tactic(auto, unfolding(crate::specs::State::sound))]
 pub fn is_sound(state: State) -> bool
     ensures { SoundPromise state result }
 {
-    let setup = state.setup;
-    if !is_sound_setup(setup) {
-        return false;
-    }
-    let iid = state.iid;
-    if !records::is_sound(Kind::Iid, iid) {
-        return false;
-    }
-    let icc = state.icc;
-    if !records::is_sound(Kind::Icc, icc) {
-        return false;
-    }
-    let ipd = state.ipd;
-    if !records::is_sound(Kind::Ipd, ipd) {
-        return false;
-    }
-    let opd = state.opd;
-    records::is_sound(Kind::Opd, opd)
+    is_sound_setup(state.setup)
+        && records::is_sound(Kind::Iid, state.iid)
+        && records::is_sound(Kind::Icc, state.icc)
+        && records::is_sound(Kind::Ipd, state.ipd)
+        && records::is_sound(Kind::Opd, state.opd)
 }
 
 // A state out of step, and nothing else touched.
 pub fn lost(state: State) -> State
     ensures { result ≡ lost state }
 {
-    let mut next = state;
-    next.instep = false;
-    next
+    State {
+        instep: false,
+        ..state
+    }
 }

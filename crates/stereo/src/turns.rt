@@ -32,60 +32,34 @@ fn phases_at(phases: [Phases; 4], i: usize) -> Phases
 fn is_across(rows: [Row; 4]) -> bool
     ensures { result ≡ across rows }
 {
-    let first = row_at(rows, 0);
-    first.time == 0
+    row_at(rows, 0).time == 0
 }
 
 // Whether the first phases are across frequency, where there are any.
+#[tactic(auto, unfolding(crate::specs::Restart::phases_across))]
 fn are_phases_across(body: Body) -> bool
     ensures { result ≡ phases_across body }
 {
-    if body.phase != 1 {
-        return true;
-    }
-    let phases = body.phases;
-    let first = phases_at(phases, 0);
-    let ipd = first.ipd;
-    if ipd.time != 0 {
-        return false;
-    }
-    let opd = first.opd;
-    opd.time == 0
+    let first = phases_at(body.phases, 0);
+    body.phase != 1 || (first.ipd.time == 0 && first.opd.time == 0)
 }
 
 // Whether contents are a restart.
+#[tactic(auto, unfolding(crate::specs::Restart::restart))]
 pub fn is_restart(contents: Contents) -> bool
     ensures { result ≡ restart contents }
 {
-    let header = contents.header;
-    if header.there != 1 {
-        return false;
-    }
-    if header.iid != 1 {
-        return false;
-    }
-    if header.icc != 1 {
-        return false;
-    }
-    let frame = contents.frame;
-    if frame.envelopes < 1 {
-        return false;
-    }
-    let iid = contents.iid;
-    if !is_across(iid) {
-        return false;
-    }
-    let icc = contents.icc;
-    if !is_across(icc) {
-        return false;
-    }
-    let extension = contents.extension;
-    let part = extension.part;
-    let body = part.body;
-    are_phases_across(body)
+    contents.header.there == 1
+        && contents.header.iid == 1
+        && contents.header.icc == 1
+        && 1 <= contents.frame.envelopes
+        && is_across(contents.iid)
+        && is_across(contents.icc)
+        && are_phases_across(contents.extension.part.body)
 }
 
 // A kind's record after a payload of n envelopes, of which these are the last one's indices.
+#[tactic(auto, unfolding(crate::specs::Carried::record_after))]
 fn record_after(on: bool, mode: u32, rec: Record, n: usize, indices: [i8; 34]) -> Record
     ensures { result ≡ record_after on mode rec n indices }
 {
@@ -102,89 +76,46 @@ fn record_after(on: bool, mode: u32, rec: Record, n: usize, indices: [i8; 34]) -
 fn last_row(n: usize, rows: [Row; 4]) -> [i8; 34]
     ensures { result ≡ last_row n rows }
 {
-    if n <= 1 {
-        let row = rows[0];
-        return row.indices;
-    }
-    if n == 2 {
-        let row = rows[1];
-        return row.indices;
-    }
-    if n == 3 {
-        let row = rows[2];
-        return row.indices;
-    }
-    if n == 4 {
-        let row = rows[3];
-        return row.indices;
-    }
-    records::zeros()
+    row_at(rows, n.saturating_sub(1)).indices
 }
 
 // The phases of the last of n envelopes; with none, those of the first.
 fn last_phases(n: usize, phases: [Phases; 4]) -> Phases
     ensures { result ≡ last_phases n phases }
 {
-    if n <= 1 {
-        return phases[0];
-    }
-    if n == 2 {
-        return phases[1];
-    }
-    if n == 3 {
-        return phases[2];
-    }
-    if n == 4 {
-        return phases[3];
-    }
-    extensions::no_phases()
+    phases_at(phases, n.saturating_sub(1))
 }
 
 // The phase records after a payload.
+#[tactic(auto, unfolding(crate::specs::Carried::phase_records))]
 fn phases_after(setup: Setup, state: State, n: usize, body: Body) -> PhaseRecords
     ensures { result ≡ phase_records setup state n body }
 {
     let on = body.phase == 1;
-    let phases = body.phases;
-    let last = last_phases(n, phases);
-    let row = last.ipd;
-    let indices = row.indices;
-    let rec = state.ipd;
-    let ipd = record_after(on, setup.iidmode, rec, n, indices);
-    let row = last.opd;
-    let indices = row.indices;
-    let rec = state.opd;
-    let opd = record_after(on, setup.iidmode, rec, n, indices);
-    PhaseRecords { ipd, opd }
+    let mode = setup.iidmode;
+    let last = last_phases(n, body.phases);
+    PhaseRecords {
+        ipd: record_after(on, mode, state.ipd, n, last.ipd.indices),
+        opd: record_after(on, mode, state.opd, n, last.opd.indices),
+    }
 }
 
 // The state after a payload that was read from another.
+#[tactic(auto, unfolding(crate::specs::Carried::carried, crate::specs::Carried::carried_in))]
 pub fn carried(state: State, contents: Contents) -> State
     ensures { result ≡ carried state contents }
 {
-    let before = state.setup;
-    let header = contents.header;
-    let setup = headers::setup_after(before, header);
-    let frame = contents.frame;
-    let n = frame.envelopes;
-    let rows = contents.iid;
-    let rec = state.iid;
-    let iid = record_after(setup.iid, setup.iidmode, rec, n, last_row(n, rows));
-    let rows = contents.icc;
-    let rec = state.icc;
-    let icc = record_after(setup.icc, setup.iccmode, rec, n, last_row(n, rows));
-    let extension = contents.extension;
-    let part = extension.part;
-    let body = part.body;
-    let phases = phases_after(setup, state, n, body);
-    let ipd = phases.ipd;
-    let opd = phases.opd;
+    let setup = headers::setup_after(state.setup, contents.header);
+    let n = contents.frame.envelopes;
+    let levels = last_row(n, contents.iid);
+    let coherences = last_row(n, contents.icc);
+    let phases = phases_after(setup, state, n, contents.extension.part.body);
     State {
         setup,
-        iid,
-        icc,
-        ipd,
-        opd,
+        iid: record_after(setup.iid, setup.iidmode, state.iid, n, levels),
+        icc: record_after(setup.icc, setup.iccmode, state.icc, n, coherences),
+        ipd: phases.ipd,
+        opd: phases.opd,
         instep: true,
     }
 }

@@ -122,6 +122,8 @@ middle-le Icc mode = omega arith
 middle-le Ipd mode = omega arith
 middle-le Opd mode = omega arith
 
+pub ruleset middles = (pos-by-kind, middle-le)
+
 -- the difference of an entry, and the sum
 pub difference_abs : (k : Kind) (mode e : ℕ) → e ≤ 60 → nat_abs (pos e -ℤ pos (middle k mode)) ≤ 90
 difference_abs k mode e h = abs_add (pos e) (neg_ℤ (pos (middle k mode))) 60 30 h (rw abs_neg (middle-le k mode))

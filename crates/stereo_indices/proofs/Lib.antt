@@ -1,4 +1,5 @@
 pub mod KindLaws
+pub mod ListingLaws
 pub mod IndexLaws
 pub mod RowLaws
 pub mod RecordLaws

@@ -3,5 +3,4 @@ pub mod Difference
 pub mod Record
 pub mod Indices
 pub mod Rows
-pub mod InnerAnswers
 pub mod InnerTables

@@ -8,29 +8,22 @@ use crate::Kind;
 pub fn is_phase(kind: Kind) -> bool
     ensures { result ≡ is_phase kind }
 {
-    match kind {
-        Kind::Iid => false,
-        Kind::Icc => false,
-        Kind::Ipd => true,
-        Kind::Opd => true,
-    }
+    matches!(kind, Kind::Ipd | Kind::Opd)
 }
 
 // One of three numbers, by the mode modulo 3.
 fn by_mode(mode: u32, a: usize, b: usize, c: usize) -> usize
     ensures { result ≡ by_mode mode a b c }
 {
-    let m = mode % 3;
-    if m == 0 {
-        return a;
+    match mode % 3 {
+        0 => a,
+        1 => b,
+        _ => c,
     }
-    if m == 1 {
-        return b;
-    }
-    c
 }
 
 // How many bands a kind has in a mode.
+#[tactic(auto, unfolding(crate::specs::Kind::bands))]
 pub fn bands(kind: Kind, mode: u32) -> usize
     ensures { (result ≡ bands kind mode) × (result ≤ 34) }
 {
@@ -45,19 +38,15 @@ pub fn by_kind(kind: Kind, mode: u32, fine: i16, plain: i16, coherence: i16, pha
     ensures { result ≡ by_kind kind mode fine plain coherence phase }
 {
     match kind {
-        Kind::Iid => {
-            if 3 <= mode {
-                return fine;
-            }
-            plain
-        }
+        Kind::Iid if 3 <= mode => fine,
+        Kind::Iid => plain,
         Kind::Icc => coherence,
-        Kind::Ipd => phase,
-        Kind::Opd => phase,
+        Kind::Ipd | Kind::Opd => phase,
     }
 }
 
 // The least index of a kind.
+#[tactic(auto, unfolding(crate::specs::Kind::least))]
 pub fn least(kind: Kind, mode: u32) -> i16
     ensures { result ≡ least kind mode }
 {
@@ -65,6 +54,7 @@ pub fn least(kind: Kind, mode: u32) -> i16
 }
 
 // The greatest index of a kind.
+#[tactic(auto, unfolding(crate::specs::Kind::most))]
 pub fn most(kind: Kind, mode: u32) -> i16
     ensures { result ≡ most kind mode }
 {
@@ -72,14 +62,9 @@ pub fn most(kind: Kind, mode: u32) -> i16
 }
 
 // Whether a number is not below one and not above another.
+#[tactic(auto, unfolding(crate::specs::Kind::within))]
 pub fn within(low: i16, high: i16, x: i16) -> bool
     ensures { result ≡ within low high x }
 {
-    if x < low {
-        return false;
-    }
-    if high < x {
-        return false;
-    }
-    true
+    low <= x && x <= high
 }

@@ -8,7 +8,8 @@ ghost use Rattle.stereo_lent.specs.Lent.{apart_of, LentReadPromise, LentMissingP
 
 use stereo::{Contents, State};
 
-// The answer to a payload: the refusal and the bit at which it was refused, or 0, how many bits it used, and its contents.
+// The answer to a payload: the refusal and the bit at which it was refused, or 0, how many bits it used, and its contents. A
+// record with a number, as the promise's `apart_of` is of it.
 #[derive(Clone, Copy)]
 pub struct Answer {
     pub number: u8,
@@ -28,17 +29,15 @@ struct Apart {
 fn read_apart(state: State, bytes: &[u8], start: usize, end: usize) -> Apart
     ensures { result ≡ apart_of (read_from state (range_in bytes.now start end)) }
 {
-    let r = stereo_reader::read(state, bytes, start, end);
-    let contents = r.contents;
-    let next = r.state;
+    let read = stereo_reader::read(state, bytes, start, end);
     let answer = Answer {
-        number: r.number,
-        place: r.place,
-        bits: r.bits,
-        contents,
+        number: read.number,
+        place: read.place,
+        bits: read.bits,
+        contents: read.contents,
     };
     Apart {
-        state: next,
+        state: read.state,
         answer,
     }
 }
@@ -49,16 +48,16 @@ pub fn read(state: &mut State, bytes: &[u8], start: usize, end: usize) -> Answer
         state.old (record { bytes = bytes.now; start = start; end = end })
         result state.new }
 {
-    let a = read_apart(*state, bytes, start, end);
-    *state = a.state;
-    a.answer
+    let apart = read_apart(*state, bytes, start, end);
+    *state = apart.state;
+    apart.answer
 }
 
-// A payload reported missing: the refusal, or 0; the lent state is then the next one.
+// A payload reported missing: the refusal, or 0, as `LentMissingPromise` has it; the lent state is then the next one.
 pub fn missing(state: &mut State) -> u8
     ensures { LentMissingPromise state.old result state.new }
 {
-    let r = stereo_reader::missing(*state);
-    *state = r.state;
-    r.number
+    let report = stereo_reader::missing(*state);
+    *state = report.state;
+    report.number
 }

@@ -6,10 +6,11 @@ ghost use Rattle.stereo.specs.State.{lost};
 ghost use Rattle.stereo.specs.Restart.{restart};
 ghost use Rattle.stereo_reader.specs.Reading.{from, refusal, taken, read_bytes, ReadPromise, MissingPromise};
 
-use bits::Ended;
+use bits::Bits;
 use stereo::{Contents, State, payloads, states, turns};
 
 // The answer to a payload: the refusal and the bit at which it was refused, or 0, how many bits it used, its contents, and the next state.
+// A record with a number, as the promise's `read_from` and the demands are of it; so is a report.
 #[derive(Clone, Copy)]
 pub struct Reading {
     pub number: u8,
@@ -45,14 +46,12 @@ fn refused_at(number: u8, place: usize, state: State) -> Reading
     ensures { result ≡ refusal number place (lost state) }
 {
     let contents = payloads::no_contents();
-    let mut next = state;
-    next.instep = false;
     Reading {
         number,
         place,
         bits: 0,
         contents,
-        state: next,
+        state: states::lost(state),
     }
 }
 
@@ -70,13 +69,11 @@ pub fn read_from(state: State) -> State
 pub fn is_accepted(state: State, contents: Contents) -> bool
     ensures { result ≡ state.instep || restart contents }
 {
-    if state.instep {
-        return true;
-    }
-    turns::is_restart(contents)
+    state.instep || turns::is_restart(contents)
 }
 
 // Contents that were read: accepted, or 35.
+#[tactic(auto, unfolding(crate::specs::Reading::taken))]
 fn taken(state: State, contents: Contents, bits: usize) -> Reading
     ensures { result ≡ taken state contents bits }
 {
@@ -84,13 +81,12 @@ fn taken(state: State, contents: Contents, bits: usize) -> Reading
         return refused_at(35, bits, state);
     }
     let before = read_from(state);
-    let next = turns::carried(before, contents);
     Reading {
         number: 0,
         place: 0,
         bits,
         contents,
-        state: next,
+        state: turns::carried(before, contents),
     }
 }
 
@@ -100,29 +96,26 @@ pub fn read_bytes(state: State, s: &[u8]) -> Reading
     ensures { result ≡ read_bytes state s.now }
 {
     let lookups = tables::stereo_lookups();
-    let end = 8 * bits::looked_at(s.len(), 1025);
+    let end = 8 * s.len().min(1025);
+    let payload = Bits { bytes: s, end };
     let before = read_from(state);
-    let read = payloads::read_payload(s, end, before, &lookups);
-    let ended = read.ended;
-    match ended {
-        Ended::At(bits) => {
-            if 7 < bits::remaining(bits, end) {
+    match payloads::read_payload(&payload, before, &lookups) {
+        Ok((contents, bits)) => {
+            if 7 < payload.left(bits) {
                 return refused_at(12, bits, state);
             }
-            taken(state, read.contents, bits)
+            taken(state, contents, bits)
         }
-        Ended::Refused(number, place) => refused_at(number, place, state),
+        Err(refusal) => refused_at(refusal.number, refusal.place, state),
     }
 }
 
 // A payload in a range of a buffer: what it holds, how many bits it used, and the next state.
+#[tactic(auto, unfolding(crate::specs::Reading::read_from))]
 pub fn read(state: State, bytes: &[u8], start: usize, end: usize) -> Reading
     ensures { ReadPromise state (record { bytes = bytes.now; start = start; end = end }) result }
 {
-    if end < start {
-        return refused(1, state);
-    }
-    if bytes.len() < end {
+    if end < start || bytes.len() < end {
         return refused(1, state);
     }
     if !states::is_sound(state) {
@@ -132,15 +125,15 @@ pub fn read(state: State, bytes: &[u8], start: usize, end: usize) -> Reading
 }
 
 // A payload reported missing.
+#[tactic(auto, unfolding(crate::specs::Reading::missing))]
 pub fn missing(state: State) -> Report
     ensures { MissingPromise state result }
 {
     if !states::is_sound(state) {
         return Report { number: 4, state };
     }
-    let next = states::lost(state);
     Report {
         number: 0,
-        state: next,
+        state: states::lost(state),
     }
 }

@@ -12,31 +12,28 @@ use Rattle.stereo_indices.specs.declared.Kind.{Kind}
 use Rattle.stereo_indices.proofs.KindLaws.{byte_abs, wide_is, through, middle-le}
 
 -- a signed byte, widened
-abbrev pub wide : ℤ → ℤ
+abbrev wide : ℤ → ℤ
 wide x = to_z w16 (of_z w16 (to_z w8 (of_z w8 x)))
 
 -- the difference
-pub gap_is : (x y : ℤ) → SFits w8 x → SFits w8 y → wide y -ℤ wide x ≡ y -ℤ x
+gap_is : (x y : ℤ) → SFits w8 x → SFits w8 y → wide y -ℤ wide x ≡ y -ℤ x
 gap_is x y f g = rw (wide_is x f, wide_is y g)
 
-pub gap_abs : (x y : ℤ) → SFits w8 x → SFits w8 y → nat_abs (y -ℤ x) ≤ 256
+gap_abs : (x y : ℤ) → SFits w8 x → SFits w8 y → nat_abs (y -ℤ x) ≤ 256
 gap_abs x y f g = abs_add y (neg_ℤ x) 128 128 (byte_abs y g) (rw abs_neg (byte_abs x f))
 
-pub gap-fits : (x y : ℤ) → SFits w8 x → SFits w8 y → SFits w16 (wide y -ℤ wide x)
-gap-fits x y f g = rw (gap_is x y f g) (fits 256 (gap_abs x y f g) (omega arith))
-
 -- with the entry that is no difference
-abbrev pub step : Kind → ℕ → ℤ → ℤ → ℤ
+abbrev step : Kind → ℕ → ℤ → ℤ → ℤ
 step k mode x y = y -ℤ x +ℤ pos (middle k mode)
 
-abbrev pub code_step : ℤ → ℤ → ℤ → ℤ
+abbrev code_step : ℤ → ℤ → ℤ → ℤ
 code_step x y m = to_z w16 (of_z w16 (wide y -ℤ wide x)) +ℤ to_z w16 (of_z w16 m)
 
-pub step_is : (k : Kind) (mode : ℕ) (x y m : ℤ) → SFits w8 x → SFits w8 y → m ≡ pos (middle k mode) → code_step x y m ≡ step k mode x y
+step_is : (k : Kind) (mode : ℕ) (x y m : ℤ) → SFits w8 x → SFits w8 y → m ≡ pos (middle k mode) → code_step x y m ≡ step k mode x y
 step_is k mode x y m f g e =
     rw (through w16 256 (gap_is x y f g) (gap_abs x y f g) (omega arith), through w16 30 e (middle-le k mode) (omega arith))
 
-pub step_abs : (k : Kind) (mode : ℕ) (x y : ℤ) → SFits w8 x → SFits w8 y → nat_abs (step k mode x y) ≤ 286
+step_abs : (k : Kind) (mode : ℕ) (x y : ℤ) → SFits w8 x → SFits w8 y → nat_abs (step k mode x y) ≤ 286
 step_abs k mode x y f g = abs_add (y -ℤ x) (pos (middle k mode)) 256 30 (gap_abs x y f g) (middle-le k mode)
 
 pub step_fits : (k : Kind) (mode : ℕ) (x y m : ℤ) → SFits w8 x → SFits w8 y → m ≡ pos (middle k mode) → SFits w16 (code_step x y m)

@@ -3,4 +3,4 @@ pub mod SameLaws
 pub mod WritingLaws
 pub mod WroteLaws
 pub mod EntryLaws
-pub mod ListSame
+pub mod EqualLaws

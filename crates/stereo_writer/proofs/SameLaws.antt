@@ -21,7 +21,7 @@ pub record Right {A : Type 0} (same : A → A → Bool) : Type 0 where
 number-right : Right eqb
 number-right = record { is = eqb-true; self = λ a. eq-eqb a a refl }
 
-index-right : Right same_index
+pub index-right : Right same_index
 index-right = record { is = is; self = self }
   where
     is : (a b : ℤ) → same_index a b ≡ true → a ≡ b

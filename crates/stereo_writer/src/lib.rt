@@ -8,19 +8,14 @@ mod fields;
 mod payloads;
 mod rows;
 mod same;
+mod scratch;
 pub mod writing;
 
-// The answer to a writing: the refusal, or 0, how many bits were written, and the next state.
+// The answer to a writing: the refusal, or 0, how many bits were written, and the next state. A record with a number, as the promise's
+// `writing` is of it.
 #[derive(Clone, Copy)]
 pub struct Written {
     pub number: u8,
     pub bits: usize,
     pub state: State,
-}
-
-// Contents, spelled: how many bits, and whether they are read back.
-#[derive(Clone, Copy)]
-pub struct Spelled {
-    pub bits: usize,
-    pub can: bool,
 }

@@ -2,15 +2,15 @@
 ghost use Rattle.std.specs.Prelude.{◌<◌, ◌≤◌, pos, ◌≡◌, [], take, get_or};
 ghost use Rattle.bits.specs.Spelled.{spell_each};
 ghost use Rattle.tables.specs.Tables.{spell_word};
-ghost use Rattle.tables.specs.InnerLent.{StereoWords};
 ghost use Rattle.tables.specs.GeneratedNames.{table_at};
 ghost use Rattle.stereo_indices.specs.Kind.{bands};
 ghost use Rattle.stereo_indices.specs.Indices.{reference};
 ghost use Rattle.stereo_writer.specs.InnerWrote.{Wrote, Room};
 ghost use Rattle.stereo_writer.specs.Spelling.{entry_to, spell_index, spell_row, spell_rows};
 
-use crate::fields::put_field;
+use crate::scratch::Scratch;
 use stereo_indices::{Kind, Record, Row, kinds, steps};
+use tables::StereoWords;
 
 // The entry whose difference leads from one index to another.
 fn entry_to(kind: Kind, mode: u32, x: i8, y: i8) -> u32
@@ -20,111 +20,93 @@ fn entry_to(kind: Kind, mode: u32, x: i8, y: i8) -> u32
         return (steps::magnitude(y) + 8 - steps::magnitude(x) % 8) % 8;
     }
     let step = y as i16 - x as i16 + steps::middle(kind, mode);
-    if step < 0 {
-        return (0 - step) as u32;
-    }
-    step as u32
+    step.unsigned_abs() as u32
 }
 
 // The word of an entry.
-fn put_word(out: &mut [u8], at: usize, table: usize, entry: u32, words: &[u32]) -> usize
-    requires { Room 20 at out.old × StereoWords words.now × (12 ≤ table) × (table < 22) }
-    ensures { Wrote 20 out.old at (spell_word (table_at table) entry) result out.new }
+fn put_word(w: &mut Scratch, table: usize, entry: u32, words: &StereoWords)
+    requires { Room 20 w.old × (12 ≤ table) × (table < 22) }
+    ensures { Wrote 20 w.old (spell_word (table_at table) entry) w.new }
 {
-    let word = tables::entry_word(words, table, entry as usize);
-    put_field(out, at, word.code, word.len as usize)
+    let word = words.word(table, entry as usize);
+    w.put(word.code, word.len as usize);
 }
 
-// The entry of an index, from that of the record or the one before it.
+// What an index is coded from: that of the record or the one before it, or 0.
+fn reference(time: u32, before: [i8; 34], xs: [i8; 34], i: usize) -> i8
+    requires { i < 34 }
+    ensures { result ≡ reference time before (take i xs) }
+{
+    if time == 1 {
+        return before[i];
+    }
+    if i == 0 {
+        return 0;
+    }
+    xs[i - 1]
+}
+
+// The entry of an index.
 fn entry_at(kind: Kind, mode: u32, time: u32, before: [i8; 34], xs: [i8; 34], i: usize) -> u32
     requires { i < 34 }
     ensures { result ≡ entry_to kind mode (reference time before (take i xs)) (get_or xs i (pos 0)) }
 {
-    if time == 1 {
-        return entry_to(kind, mode, before[i], xs[i]);
-    }
-    if i == 0 {
-        return entry_to(kind, mode, 0, xs[0]);
-    }
-    entry_to(kind, mode, xs[i - 1], xs[i])
+    entry_to(kind, mode, reference(time, before, xs, i), xs[i])
 }
 
 // The words of a row's indices, after the record before it.
 fn put_indices(
-    out: &mut [u8],
-    at: usize,
+    w: &mut Scratch,
     kind: Kind,
     mode: u32,
     time: u32,
     before: [i8; 34],
     xs: [i8; 34],
-    words: &[u32],
-) -> usize
-    requires { Room 700 at out.old × StereoWords words.now }
-    ensures { Wrote 680 out.old at (spell_each (spell_index kind mode time before) [] (take (bands kind mode) xs)) result
-        out.new }
+    words: &StereoWords,
+)
+    requires { Room 680 w.old }
+    ensures { Wrote 680 w.old (spell_each (spell_index kind mode time before) [] (take (bands kind mode) xs)) w.new }
 {
     let count = kinds::bands(kind, mode);
     let table = steps::difference_table(kind, mode, time);
-    let mut place = at;
-    let mut i = 0;
-    while i < count {
-        let entry = entry_at(kind, mode, time, before, xs, i);
-        place = put_word(out, place, table, entry, words);
-        i += 1;
+    for i in 0..count {
+        put_word(w, table, entry_at(kind, mode, time, before, xs, i), words);
     }
-    place
 }
 
 // A row: its time flag, and its indices.
-pub fn put_row(
-    out: &mut [u8],
-    at: usize,
-    kind: Kind,
-    mode: u32,
-    rec: Record,
-    row: Row,
-    words: &[u32],
-) -> usize
-    requires { Room 720 at out.old × StereoWords words.now }
-    ensures { Wrote 681 out.old at (spell_row kind mode rec row) result out.new }
+pub fn put_row(w: &mut Scratch, kind: Kind, mode: u32, rec: Record, row: Row, words: &StereoWords)
+    requires { Room 681 w.old }
+    ensures { Wrote 681 w.old (spell_row kind mode rec row) w.new }
 {
-    let place = put_field(out, at, row.time, 1);
-    let before = rec.indices;
-    let xs = row.indices;
-    put_indices(out, place, kind, mode, row.time, before, xs, words)
+    w.put(row.time, 1);
+    put_indices(w, kind, mode, row.time, rec.indices, row.indices, words);
 }
 
 // The rows of a kind in n envelopes, each after those before it; not enabled, it has none.
 pub fn put_rows(
-    out: &mut [u8],
-    at: usize,
+    w: &mut Scratch,
     kind: Kind,
     on: bool,
     mode: u32,
     rec: Record,
     n: usize,
     rows: [Row; 4],
-    words: &[u32],
-) -> usize
-    requires { Room 2800 at out.old × StereoWords words.now }
-    ensures { Wrote 2724 out.old at (spell_rows kind on mode rec n rows) result out.new }
+    words: &StereoWords,
+)
+    requires { Room 2724 w.old }
+    ensures { Wrote 2724 w.old (spell_rows kind on mode rec n rows) w.new }
 {
     if !on {
-        return at;
+        return;
     }
+    let sent = &rows[..n.min(4)];
     let mut last = rec;
-    let mut place = at;
-    let mut k = 0;
-    while k < 4 {
-        if n <= k {
-            return place;
-        }
-        let row = rows[k];
-        place = put_row(out, place, kind, mode, last, row, words);
-        let indices = row.indices;
-        last = Record { mode, indices };
-        k += 1;
+    for row in sent {
+        put_row(w, kind, mode, last, *row, words);
+        last = Record {
+            mode,
+            indices: row.indices,
+        };
     }
-    place
 }

@@ -1,5 +1,5 @@
 // The stereo writer.
-ghost use Rattle.std.specs.Prelude.{◌≡◌, true, ◌*◌, ◌≤◌, length, replicate};
+ghost use Rattle.std.specs.Prelude.{◌≡◌, true, ◌≤◌, replicate};
 ghost use Rattle.bits.specs.Pieces.{total};
 ghost use Rattle.bits.specs.Packed.{put_all, bytes_for};
 ghost use Rattle.bits.specs.Writable.{matches};
@@ -10,10 +10,11 @@ ghost use Rattle.stereo_writer.specs.Spelling.{spelling};
 ghost use Rattle.stereo_writer.specs.Same.{same_contents};
 ghost use Rattle.stereo_writer.specs.Writing.{can_write, unwritten, WritePromise};
 
+use crate::Written;
 use crate::payloads::put_contents;
 use crate::same::same_contents;
-use crate::{Spelled, Written};
-use bits::Ended;
+use crate::scratch::Scratch;
+use bits::Bits;
 use bits::write::copy_out;
 use stereo::{Contents, State, payloads, states, turns};
 
@@ -28,18 +29,14 @@ fn refused(number: u8, state: State) -> Written
     }
 }
 
-// Whether what was read from a scratch array are these contents.
-fn is_read_back(scratch: &[u8], bits: usize, state: State, contents: Contents) -> bool
-    requires { bits ≤ 8 * length scratch.now }
-    ensures { result ≡ matches same_contents (payload state scratch.now 0 bits) contents }
+// Whether what is read from a payload are these contents.
+fn is_read_back(s: &Bits, state: State, contents: Contents) -> bool
+    ensures { result ≡ matches same_contents (payload state s.now.bytes.now 0 s.now.end) contents }
 {
     let lookups = tables::stereo_lookups();
-    let read = payloads::read_payload(scratch, bits, state, &lookups);
-    let ended = read.ended;
-    let back = read.contents;
-    match ended {
-        Ended::At(_) => same_contents(back, contents),
-        Ended::Refused(_, _) => false,
+    match payloads::read_payload(s, state, &lookups) {
+        Ok((back, _)) => same_contents(back, contents),
+        Err(_) => false,
     }
 }
 
@@ -52,23 +49,26 @@ fn bytes_for(bits: usize) -> usize
 }
 
 // Contents spelled from a state into a scratch array.
-fn put_spelled(scratch: &mut [u8], state: State, contents: Contents) -> usize
-    requires { Room 12288 0 scratch.old }
-    ensures { Wrote 10952 scratch.old 0 (spelling state contents) result scratch.new }
+fn put_spelled(w: &mut Scratch, state: State, contents: Contents)
+    requires { Room 10952 w.old }
+    ensures { Wrote 10952 w.old (spelling state contents) w.new }
 {
     let words = tables::stereo_words();
-    put_contents(scratch, state, contents, &words)
+    put_contents(w, state, contents, &words);
 }
 
-// Contents spelled from a state into a scratch array of zeros, and read back.
-fn spell(scratch: &mut [u8], state: State, contents: Contents) -> Spelled
-    requires { scratch.old ≡ replicate 1536 0 }
-    ensures { (result.bits ≡ total (spelling state contents)) × (result.bits ≤ 10952) × (result.can ≡ can_write state contents)
-        × (scratch.new ≡ put_all (replicate 1536 0) 0 (spelling state contents)) }
+// Contents spelled from a state into a scratch array of zeros: whether they are read back.
+fn spell(w: &mut Scratch, state: State, contents: Contents) -> bool
+    requires { (w.old.bytes ≡ replicate 1536 0) × (w.old.at ≡ 0) }
+    ensures { (w.new.at ≡ total (spelling state contents)) × (w.new.at ≤ 10952) × (result ≡ can_write state contents)
+        × (w.new.bytes ≡ put_all (replicate 1536 0) 0 (spelling state contents)) }
 {
-    let bits = put_spelled(scratch, state, contents);
-    let can = is_read_back(scratch, bits, state, contents);
-    Spelled { bits, can }
+    put_spelled(w, state, contents);
+    let s = Bits {
+        bytes: &w.bytes,
+        end: w.at,
+    };
+    is_read_back(&s, state, contents)
 }
 
 // Contents written from a sound state into a lent buffer.
@@ -77,20 +77,22 @@ pub fn write_sound(out: &mut [u8], state: State, contents: Contents) -> Written
     ensures { WritePromise out.old state contents result out.new }
 {
     let before = stereo_reader::read_from(state);
-    let mut scratch = [0u8; 1536];
-    let spelled = spell(&mut scratch, before, contents);
-    if !spelled.can {
+    let mut scratch = Scratch {
+        bytes: [0u8; 1536],
+        at: 0,
+    };
+    if !spell(&mut scratch, before, contents) {
         return refused(40, state);
     }
     if !stereo_reader::is_accepted(state, contents) {
         return refused(35, state);
     }
-    let bits = spelled.bits;
+    let bits = scratch.at;
     let bytes = bytes_for(bits);
     if out.len() < bytes {
         return refused(2, state);
     }
-    copy_out(out, &scratch, bytes);
+    copy_out(out, &scratch.bytes, bytes);
     let next = turns::carried(before, contents);
     Written {
         number: 0,

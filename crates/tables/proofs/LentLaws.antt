@@ -17,7 +17,7 @@ use Rattle.tables.specs.InnerGenerated.{channel_lookups, stereo_lookups, stereo_
 use Rattle.tables.specs.GeneratedNames.{table_at}
 use Rattle.tables.specs.declared.Lookup.{Lookup}
 use Rattle.tables.specs.Tables.{codes_of, lens_of, word_of, spell_word}
-use Rattle.tables.specs.InnerLent.{lookups_for, part_of, lookup_at, elements, Lies, ChannelTables, StereoTables}
+use Rattle.tables.specs.InnerLent.{lookups_for, part_of, first_bits, lookup_at, elements, Lies}
 use Rattle.tables.proofs.RunLaws.{run_length, codes-count, lens-count}
 use Rattle.tables.proofs.PlaceLaws.{place_in}
 use Rattle.tables.proofs.Rules.{free-at}
@@ -69,22 +69,35 @@ module _ (t : ℕ) (h : t < 22) where
       (all-at 22 right all_right t h) (free-at t)
 
   -- the same of what a function is lent, and of the lookup that it found
-  module _ {lookups : List ℕ} {l : Lookup} (p : lookups ≡ lookups_for t) (q : l ≡ lookup_at t) where
-    pub lies-of : Lies lookups l
-    lies-of = subst (λ (x : List ℕ). Lies x l) (sym p) (subst (λ (x : Lookup). Lies (lookups_for t) x) (sym q) lookup-lies)
+  module _ {lookups : List ℕ} (p : lookups ≡ lookups_for t) where
+    -- the table's part has a place in front, and so has the next
+    pub places-in : {part : ℕ} → part ≡ part_of t → part + 1 < length lookups
+    places-in e = rw (p, e) (let h = part_in in omega arith)
 
-    pub looked-of : (s : List ℕ) (at end : ℕ) → looked (elements lookups l) l.bits s at end ≡ word_of (table_at t) s at end
-    looked-of s at end =
-        ap₂ (λ (x : List ℕ) (y : Lookup). looked (elements x y) y.bits s at end) p q ∙ looked-at s at end
+    -- the code's three numbers are the lookup
+    pub lookup-found : {part first last bits : ℕ} → part ≡ part_of t → first ≡ get_or lookups part 0 → last ≡ get_or lookups (part + 1) 0
+        → bits ≡ first_bits t → record { first = first; last = last; bits = bits } ≡ lookup_at t
+    unfolding lookup_at
+    lookup-found {part} e f l b =
+        let next : part + 1 ≡ suc (part_of t) = omega arith in
+        rw (f ∙ ap₂ (λ (s : List ℕ) (i : ℕ). get_or s i 0) p e, l ∙ ap₂ (λ (s : List ℕ) (i : ℕ). get_or s i 0) p next, b)
 
--- the tables of either half are lent to whoever reads one of them
-pub channel_lent : (t : ℕ) {lookups : List ℕ} → t < 12 → ChannelTables lookups → lookups ≡ lookups_for t
+    module _ {l : Lookup} (q : l ≡ lookup_at t) where
+      pub lies-of : Lies lookups l
+      lies-of = subst (λ (x : List ℕ). Lies x l) (sym p) (subst (λ (x : Lookup). Lies (lookups_for t) x) (sym q) lookup-lies)
+
+      pub looked-of : (s : List ℕ) (at end : ℕ) → looked (elements lookups l) l.bits s at end ≡ word_of (table_at t) s at end
+      looked-of s at end =
+          ap₂ (λ (x : List ℕ) (y : Lookup). looked (elements x y) y.bits s at end) p q ∙ looked-at s at end
+
+-- the tables of either half are those of whoever reads one of them
+pub channel_half : (t : ℕ) → t < 12 → channel_lookups ≡ lookups_for t
 unfolding lookups_for
-channel_lent t h e = rw (lt-ltb _ _ h) e
+channel_half t h = rw (lt-ltb _ _ h)
 
-pub stereo-lent : (t : ℕ) {lookups : List ℕ} → 12 ≤ t → StereoTables lookups → lookups ≡ lookups_for t
+pub stereo-half : (t : ℕ) → 12 ≤ t → stereo_lookups ≡ lookups_for t
 unfolding lookups_for
-stereo-lent t h e = rw (le-ltb _ _ h) e
+stereo-half t h = rw (le-ltb _ _ h)
 
 -- where the words of a stereo table start, and where they end
 abbrev pub first_word : ℕ → ℕ
@@ -148,3 +161,27 @@ no_entry t k h =
     ap₂ (λ (x y : ℕ). piece x y ∷ [])
     (sym (get_or-eq_default (codes_of (table_at t)) 0 {n = k} (omega arith)))
     (sym (get_or-eq_default (lens_of (table_at t)) 0 {n = k} (omega arith)))
+
+-- what a writer knows of a table in what he is lent
+module _ {words : List ℕ} (lent : words ≡ stereo_words) (t : ℕ) (low : 12 ≤ t) (high : t < 22) where
+  back : t - 12 + 12 ≡ t
+  back = omega arith
+
+  -- where the table's words begin and end
+  pub stands : (length words ≡ 253) × (get_or words (t - 11) 0 ≡ get_or words (t - 12) 0 + (table_at t).count)
+      × (get_or words (t - 11) 0 ≤ 253)
+  stands =
+      let next : t - 11 ≡ suc (t - 12) = omega arith in
+      let h = words-in (t - 12) (omega arith) in
+      let s = subst (λ (x : ℕ). (first_word (suc (t - 12)) ≡ first_word (t - 12) + (table_at x).count)
+      × (first_word (suc (t - 12)) ≤ 253)) back h in
+      (rw lent words_count, rw (lent, next) s.0, rw (lent, next) s.1)
+
+  -- the word of an entry
+  pub entry_at : (k : ℕ) → k < (table_at t).count
+      → let w = get_or words (get_or words (t - 12) 0 + k) 0 in (piece (w / 32) (w % 32) ∷ [] ≡ spell_word (table_at t) k) × (w % 32 ≤ 20)
+  entry_at k h =
+      let g : k < (table_at (t - 12 + 12)).count = rw back h in
+      rw lent (subst (λ (x : ℕ). let w = get_or stereo_words (first_word (t - 12) + k) 0 in
+      (piece (w / 32) (w % 32) ∷ [] ≡ spell_word (table_at x) k)
+      × (w % 32 ≤ 20)) back (entry_is (t - 12) (omega arith) k g))

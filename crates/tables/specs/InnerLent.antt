@@ -3,12 +3,9 @@
 use Rattle.std.specs.Prelude.{ℕ, suc, ◌-◌, ◌≤◌, ◌^◌, List, ◌≡◌, ltb, length, get_or}
 use Rattle.bits.specs.Reader.{pick}
 use Rattle.tables.specs.InnerGenerated.{channel_lookups, stereo_lookups, stereo_words}
+unfoldable pub use Rattle.tables.specs.InnerHalf.{lookups_for}
 use Rattle.tables.specs.Tables.{run}
 use Rattle.tables.specs.declared.Lookup.{Lookup}
-
--- the lookups that a reader of a table is lent
-unfoldable pub lookups_for : ℕ → List ℕ
-lookups_for t = pick (ltb t 12) channel_lookups stereo_lookups
 
 -- which part of them is the table's
 abbrev pub part_of : ℕ → ℕ

@@ -3,3 +3,4 @@ pub mod Tables
 pub mod GeneratedNames
 pub mod InnerGenerated
 pub mod InnerLent
+pub mod InnerHalf

@@ -1,7 +1,7 @@
 -- Laws of the escape: reading, spelled then read, read then spelled, and what a loop of the code cites.
 -- Assumes nothing.
 use Prim.Native.Nat.{ℕ, zero, suc, ◌+◌, ◌-◌, ◌*◌, ◌<◌, ◌≤◌, ◌^◌}
-use mathlib.Core.Path.{◌≡◌, refl, ◌∙◌, ap, subst}
+use mathlib.Core.Path.{◌≡◌, refl, sym, ◌∙◌, ap, subst}
 use mathlib.Core.Bool.{false}
 use mathlib.Core.List.{List, [], ◌∷◌, ◌++◌}
 use native.Mathlib.Omega.{arith}
@@ -10,18 +10,19 @@ use native.Mathlib.Decide.{dec_lt}
 use lib.Dec.{eqb}
 use lib.Pow.{pow_mono}
 use borrow.Author.Tests.{eq-eqb, ne_eqb, lt-ltb, le-ltb, eqb-true, eqb-false}
-use Rattle.bits.specs.Reader.{got, refused, give, pick, ◌>>=◌}
+use Rattle.bits.specs.Reader.{Answer, got, refused, Reader, give, pick, after, ◌>>=◌}
 use Rattle.bits.specs.Field.{field}
-use Rattle.bits.specs.Places.{one_field}
+use Rattle.bits.specs.Places.{placed, one_field}
 use Rattle.bits.specs.Pieces.{piece}
-use Rattle.bits.proofs.Lawful.{Lawful, bind_lawful, give-lawful, refuse-lawful, pick-lawful}
+use Rattle.bits.proofs.Lawful.{Lawful, bind_lawful, not-refused, give-lawful, refuse-lawful, pick-lawful}
 use Rattle.bits.proofs.FieldLaws.{field-lawful}
-use Rattle.bits.proofs.PlacesLaws.{one_field-lawful}
+use Rattle.bits.proofs.Taken.{field_below}
+use Rattle.bits.proofs.PlacesLaws.{placed-got, one_field-lawful}
 use Rattle.bits.proofs.Spelt.{Spelt, told, give-spelt, refuse-spelt, bind_spelt, field-spelt, pick-spelt, one_field-spelt, respelt}
 use Rattle.bits.proofs.Back.{Back, give-back, bind_back, field_back, one_field-back}
 use Rattle.words.specs.Escape.{ones, magnitude, escape, ones_from, spell_ones, spell_escape}
 
-ruleset lawfuls = (bind_lawful, field-lawful, give-lawful, refuse-lawful, pick-lawful, one_field-lawful)
+ruleset lawfuls = (bind_lawful, field-lawful, not-refused, give-lawful, refuse-lawful, pick-lawful, one_field-lawful)
 
 pub ones-lawful : (k n : ℕ) → Lawful (ones k n)
 unfolding ones
@@ -135,15 +136,22 @@ module _ (n : ℕ) (s : List ℕ) (at end : ℕ) where
   unfolding ones
   ones-nine h = let q : 9 - n ≡ 0 = omega arith in rw q
 
+-- a reading that is moved to its first bit, and refused there
+moved : {A B : Type 0} (x : Answer A) (k : A → Reader B) (s : List ℕ) (at end r p : ℕ)
+    → placed x at ≡ refused r p → placed (after x k s end) at ≡ refused r p
+moved (got b m) k s at end r p e = not-refused e
+moved (refused n q) k s at end r p e = cc
+
 -- the whole, by its two readings
 module _ (s : List ℕ) (at end : ℕ) where
-  pub escape-cut : (r p : ℕ) → ones 9 0 s at end ≡ refused r p → escape s at end ≡ refused r at
+  pub escape-cut : (r p : ℕ) → placed (ones 9 0 s at end) at ≡ refused r p → escape s at end ≡ refused r p
   unfolding escape one_field
-  escape-cut r p e = rw e
+  escape-cut r p e = moved (ones 9 0 s at end) _ s at end r p e
 
-  pub escape-short : (n m r p : ℕ) → ones 9 0 s at end ≡ got n m → field (n + 4) s m end ≡ refused r p → escape s at end ≡ refused r at
+  pub escape-short : (n m r p : ℕ) → ones 9 0 s at end ≡ got n m → placed (field (n + 4) s m end) at ≡ refused r p
+      → escape s at end ≡ refused r p
   unfolding escape one_field
-  escape-short n m r p e f = rw (e, f)
+  escape-short n m r p e f = rw e (moved (field (n + 4) s m end) _ s at end r p f)
 
   pub escape-is : (n m v l : ℕ) → ones 9 0 s at end ≡ got n m → field (n + 4) s m end ≡ got v l → escape s at end ≡ got (2 ^ (n + 4) + v) l
   unfolding escape one_field magnitude
@@ -152,3 +160,15 @@ module _ (s : List ℕ) (at end : ℕ) where
   -- at most eight ones
   pub ones-few : (n m : ℕ) → ones 9 0 s at end ≡ got n m → n < 9
   ones-few n m e = ((ones-spelt 9 0).law s at end m n e).4.1
+
+  -- what the code knows of the ones and of the number after them, each moved to the escape's first bit
+  pub ones-known : (x : Answer ℕ) (n m : ℕ) → x ≡ ones 9 0 s at end → got n m ≡ placed x at → (ones 9 0 s at end ≡ got n m) × (n < 9)
+  ones-known x n m e f =
+      let k : ones 9 0 s at end ≡ got n m = sym e ∙ placed-got x at m n (sym f) in
+      (k, ones-few n m k)
+
+  pub rest_known : (x : Answer ℕ) (n m v l : ℕ) → x ≡ field (n + 4) s m end → got v l ≡ placed x at
+      → (field (n + 4) s m end ≡ got v l) × (v < 2 ^ (n + 4))
+  rest_known x n m v l e f =
+      let k : field (n + 4) s m end ≡ got v l = sym e ∙ placed-got x at l v (sym f) in
+      (k, field_below (n + 4) s m end v l k)

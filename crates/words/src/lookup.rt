@@ -1,9 +1,9 @@
 // Words by lookup: the first bits at a place lead to an entry and the length of its word.
 ghost use Rattle.std.specs.Prelude.{◌≡◌, ◌*◌, ◌<◌, ◌≤◌, ◌-◌, ◌^◌, length, get_or};
-ghost use Rattle.bits.specs.InnerAnswers.{field_answer};
+ghost use Rattle.bits.specs.InnerAnswers.{answer_of, reads};
 ghost use Rattle.words.specs.InnerLookup.{next_element, leads_to, leaf_of, answered, looked};
 
-use bits::Field;
+use bits::{Answer, Bits, refused};
 
 // An element of a lookup.
 pub fn element(look: &[u16], i: usize) -> usize
@@ -58,26 +58,26 @@ pub fn leaf(look: &[u16], k: usize, w: u32) -> usize
 }
 
 // The answer that a leaf stands for: its entry; 11 where it is of no word; 10 where its length ends past the end.
-pub fn answer(leaf: usize, at: usize, end: usize) -> Field
+pub fn answer(leaf: usize, at: usize, end: usize) -> Answer<u32>
     requires { leaf < 65536 }
-    ensures { field_answer result ≡ answered leaf at (end - at) }
+    ensures { answer_of result ≡ answered leaf at (end - at) }
 {
     let size = leaf % 32;
-    if bits::remaining(at, end) < size {
-        return Field::Refused(10, at);
+    if end.saturating_sub(at) < size {
+        return refused(10, at);
     }
     let entry = leaf / 32;
     if entry == 511 {
-        return Field::Refused(11, at);
+        return refused(11, at);
     }
-    Field::Got(entry as u32, at + size)
+    Ok((entry as u32, at + size))
 }
 
 // The entry whose word stands at a place; 10 where the bits up to the end are the start of some word, 11 where they are of none.
-pub fn read_word(s: &[u8], at: usize, end: usize, look: &[u16], k: usize) -> Field
-    requires { (end ≤ 8 * length s.now) × (k ≤ 20) × (2 ^ k ≤ length look.now) }
-    ensures { field_answer result ≡ looked look.now k s.now at end }
+pub fn read_word(s: &Bits, at: usize, look: &[u16], k: usize) -> Answer<u32>
+    requires { (k ≤ 20) × (2 ^ k ≤ length look.now) }
+    ensures { answer_of result ≡ reads (looked look.now k) s.now at }
 {
-    let w = bits::window::window(s, at, end);
-    answer(leaf(look, k, w), at, end)
+    let w = s.window(at);
+    answer(leaf(look, k, w), at, s.end)
 }

@@ -17,4 +17,4 @@ near end size h =
 pub returns : goal.returns
 returns c =
     let x = c.args in
-    ap (λ (n : ℕ). leb x.end (8 * n)) c.looked_at.ensures ∙ near x.end x.size (omega arith)
+    ap (λ (n : ℕ). leb x.end (8 * n)) c.min.ensures ∙ near x.end x.size (omega arith)

@@ -16,4 +16,4 @@ unfolding state_from
 returns g c =
     let a = c.args in
     let place = c.known_part-part.ensures.0 ∙ part-is a.image.now a.k c.requires in
-    rw place at c.print_stereo.ensures ∙ rw (ne_eqb (a.k % 2) 0 c.if-k-eq0.false)
+    rw (ne_eqb (a.k % 2) 0 c.if-k-eq0.false) (rw place at c.print_stereo.ensures)

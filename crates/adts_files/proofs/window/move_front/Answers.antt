@@ -1,24 +1,19 @@
--- After each turn so many bytes are at the front, and those that are still to be moved are as they were.
+-- The bytes that are copied are the first ones afterwards.
 -- Assumes nothing.
-use Prim.Native.Nat.{◌-◌}
-use mathlib.Core.Path.{◌≡◌, refl, ◌∙◌}
+use Prim.Native.Nat.{ℕ, ◌+◌, ◌-◌}
+use mathlib.Core.Path.{◌≡◌, subst}
+use native.Mathlib.Nat.{zero-add}
 use native.Mathlib.Omega.{arith}
-use lib.ListN.{length-set}
-use Rattle.adts_files.proofs.WindowLaws.{moved_more}
+use lib.ListN.{take, drop, length-drop}
+use lib.Seq.{paste, take-paste}
 use Rattle.adts_files.proofs.window.move_front.Goals as goal
-
-pub loop-i-preserved : goal.loop-i-preserved
-loop-i-preserved c =
-    let l = c.loop-i in
-    let a = c.args in
-    let more = moved_more a.buffer.now l.buffer a.start l.i l.invariant.3 l.invariant.2 (omega arith) in
-    (omega arith, refl, length-set l.buffer l.i _ ∙ l.invariant.2, more)
 
 pub returns : goal.returns
 returns c =
-    let l = c.loop-i in
-    let e : l.i ≡ c.args.end - c.args.start = omega arith in
-    rw e at l.invariant.3.0
-
-pub loop-i-init : goal.loop-i-init
-loop-i-init c = (omega arith, refl, refl, (refl, refl))
+    let s = c.args.buffer.now in
+    let start = c.args.start in
+    let n = c.args.end - start in
+    let copied = paste s 0 (drop start s) n in
+    let front : take (0 + n) copied ≡ take n (drop start s) =
+    take-paste s 0 (drop start s) n (omega arith) (simp length-drop (omega arith)) in
+    rw c.copy_within.ensures.after (subst (λ (k : ℕ). take k copied ≡ take n (drop start s)) (zero-add n) front)

@@ -1,13 +1,8 @@
--- So many bytes are copied after each turn; at the end all of them are put over what was there.
--- Assumes nothing.
-use Prim.Native.Nat.{◌-◌, ◌≤◌}
+-- So many values are copied after each turn; at the end all of them are put over what was there.
 use mathlib.Core.Path.{◌≡◌}
 use lib.ListN.{length}
 use lib.Seq.{paste}
 use Rattle.bits.proofs.bytes.put.Given as goal
 
 abbrev pub invariant-loop-i : goal.invariant-loop-i
-invariant-loop-i l = (l.i ≤ length l.bytes) × (length l.out ≡ length l.initial.out) × (l.out ≡ paste l.initial.out l.at l.bytes l.i)
-
-abbrev pub decreases-loop-i : goal.decreases-loop-i
-decreases-loop-i l = length l.bytes - l.i
+invariant-loop-i g l = (length l.out ≡ length l.initial.out) × (l.out ≡ paste l.initial.out l.at l.values l.i)

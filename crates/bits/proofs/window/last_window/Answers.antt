@@ -3,4 +3,4 @@ use Rattle.bits.proofs.WindowLaws.{window-last}
 use Rattle.bits.proofs.window.last_window.Goals as goal
 
 pub returns : goal.returns
-returns c = window-last _ _ _ c.looked_at-n.ensures c.bits_at.ensures
+returns c = window-last _ _ _ c.min-n.ensures c.bits_at.ensures

@@ -4,4 +4,4 @@ use Rattle.c_layout.proofs.answers.row_at.Goals as goal
 
 pub returns : goal.returns
 unfolding row_at
-returns c = rw (c.wide.ensures, c.indices_at-indices.ensures)
+returns c = rw (c.wide.ensures, c.indices_at.ensures)

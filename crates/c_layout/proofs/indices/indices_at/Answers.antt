@@ -14,7 +14,7 @@ use Rattle.c_layout.specs.Indices.{indices_at}
 use Rattle.c_layout.proofs.indices.indices_at.Goals as goal
 
 pub loop-i-init : goal.loop-i-init
-loop-i-init c = (omega arith, refl, refl)
+loop-i-init c = (refl, refl)
 
 pub loop-i-preserved : goal.loop-i-preserved
 loop-i-preserved c =
@@ -25,11 +25,11 @@ loop-i-preserved c =
     let v : to_z w8 (of_z w8 c.index_of.result) ≡ to_z w8 (get_or d l.i 0) =
     to_z-of_z w8 _ (record { sfits = c.index_of.type_inv }) ∙ c.index_of.ensures ∙ rw (get_or-drop s.args.at s.args.s.now l.i 0) in
     let more = take-suc-set l.out l.i (to_z w8 (get_or d l.i 0)) (omega arith) in
-    (omega arith, simp length-set l.invariant.1, rw (v, add-one, more, take-suc d l.i 0 h, map-append, l.invariant.2))
+    (simp length-set l.invariant.0, rw (v, add-one, more, take-suc d l.i 0 h, map-append, l.invariant.1))
 
 pub returns : goal.returns
 unfolding indices_at
 returns c =
     let l = c.loop-i in
     let e : l.i ≡ 34 = omega arith in
-    sym (take_all 34 l.out (omega arith)) ∙ rw e at l.invariant.2
+    sym (take_all 34 l.out (omega arith)) ∙ rw e at l.invariant.1

@@ -1,6 +1,5 @@
 -- So many bytes are turned into indices after each turn.
 -- Assumes nothing.
-use Prim.Native.Nat.{◌-◌, ◌≤◌}
 use mathlib.Core.Path.{◌≡◌}
 use mathlib.Core.List.{map}
 use lib.ListN.{length, take, drop}
@@ -9,7 +8,4 @@ use mir.Val.{to_z}
 use Rattle.c_layout.proofs.indices.indices_at.Given as goal
 
 abbrev pub invariant-loop-i : goal.invariant-loop-i
-invariant-loop-i l = (l.i ≤ 34) × (length l.out ≡ 34) × (take l.i l.out ≡ map (to_z w8) (take l.i (drop l.at l.s)))
-
-abbrev pub decreases-loop-i : goal.decreases-loop-i
-decreases-loop-i l = 34 - l.i
+invariant-loop-i l = (length l.out ≡ 34) × (take l.i l.out ≡ map (to_z w8) (take l.i (drop l.at l.s)))

@@ -6,14 +6,14 @@ use Rattle.channel_bands.proofs.GroupingLaws.{group_begin, group-more, group-sto
 use Rattle.channel_bands.proofs.grouping.group_length.Goals as goal
 
 pub loop-n-init : goal.loop-n-init
-loop-n-init c = (omega arith, omega arith, group_begin _ _ (omega arith))
+loop-n-init c = group_begin _ _ (omega arith)
 
 pub returns-then-grouping-from-ne1 : goal.returns-then-grouping-from-ne1
 returns-then-grouping-from-ne1 c =
     let l = c.loop-n in
     let x = c.args in
     let q : 7 - (x.from + l.n) ≡ 8 - (x.from + l.n) - 1 = omega arith in (
-      l.invariant.2 ∙ group-stop (8 - (x.from + l.n)) x.grouping l.n (omega arith) (rw q at c.if-grouping-from-ne1.true),
+      l.invariant ∙ group-stop (8 - (x.from + l.n)) x.grouping l.n (omega arith) (rw q at c.if-grouping-from-ne1.true),
       omega arith,
       omega arith,
     )
@@ -25,10 +25,11 @@ loop-n-preserved c =
     let q : 7 - (x.from + l.n) ≡ 8 - (x.from + l.n) - 1 = omega arith in
     let r : 8 - (x.from + l.n) - 1 ≡ 8 - (x.from + (l.n + 1)) = omega arith in
     let more = group-more (8 - (x.from + l.n)) x.grouping l.n (omega arith) (rw q at c.if-grouping-from-ne1.false) in
-    (omega arith, omega arith, rw (← r) (l.invariant.2 ∙ more))
+    rw (← r) (l.invariant ∙ more)
 
 pub returns : goal.returns
 returns c =
     let l = c.loop-n in
     let x = c.args in
-    (l.invariant.2 ∙ group-end (8 - (x.from + l.n)) x.grouping l.n (omega arith), omega arith, omega arith)
+    let all : l.n ≡ 8 - x.from = omega arith in
+    (l.invariant ∙ rw all (group-end (8 - (x.from + (8 - x.from))) x.grouping (8 - x.from) (omega arith)), omega arith, omega arith)

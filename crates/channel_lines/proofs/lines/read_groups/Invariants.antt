@@ -9,8 +9,8 @@ abbrev pub invariant-loop-from : goal.invariant-loop-from
 invariant-loop-from l =
     (l.from ≤ 8)
     × (l.base ≤ 15 * l.from)
-    × (group_lines l.edges l.max_sfb l.books (groups_after 8 l.grouping) 0 0 l.initial.lines l.s l.start l.end
-    ≡ group_lines l.edges l.max_sfb l.books (groups_after (8 - l.from) l.grouping) l.base l.from l.lines l.s l.at l.end)
+    × (group_lines l.edges l.max_sfb l.books (groups_after 8 l.grouping) 0 0 l.initial.lines l.s.bytes.now l.at l.s.end
+    ≡ group_lines l.edges l.max_sfb l.books (groups_after (8 - l.from) l.grouping) l.base l.from l.lines l.s.bytes.now l.place l.s.end)
 
 abbrev pub decreases-loop-from : goal.decreases-loop-from
 decreases-loop-from l = 8 - l.from

@@ -8,21 +8,18 @@ use Rattle.channel_lines.proofs.lines.read_lines.Goals as goal
 
 pub read_groups-requires : goal.read_groups-requires
 read_groups-requires c =
-    let start = c in
+    let r = c.requires in
     let w = of_short _ c.if-short.true in
-    (start.requires.0, start.requires.1, rising-up _ _ 128 (omega arith) start.requires.2, start.requires.3, omega arith)
+    (rising-up _ _ 128 (omega arith) r.0, r.1, omega arith)
 
 pub returns-then-short : goal.returns-then-short
 returns-then-short c = c.read_groups.ensures ∙ rw (groups-short _ _ c.if-short.true)
 
 pub read_group-requires : goal.read_group-requires
 read_group-requires c =
-    let start = c in
+    let r = c.requires in
     let w = of_long _ c.if-short.false in
-    rw c.group_at-only.ensures
-    (start.requires.0, start.requires.1, rising-up _ _ 1024 (omega arith) start.requires.2, start.requires.3, omega arith, omega arith)
+    (rising-up _ _ 1024 (omega arith) r.0, r.1, omega arith, omega arith)
 
 pub returns : goal.returns
-returns c =
-    (c.read_group.ensures ∙ rw c.group_at-only.ensures)
-    ∙ lines_long _ _ _ _ _ _ _ _ _ c.if-short.false
+returns c = c.read_group.ensures ∙ lines_long _ _ _ _ _ _ _ _ _ c.if-short.false

@@ -1,33 +1,29 @@
 -- The windows that are left are read into the lines that are there, one a turn.
-use mathlib.Core.Path.{sym, ◌∙◌}
-use native.Mathlib.Omega.{arith}
+use mathlib.Core.Path.{◌≡◌, sym, ◌∙◌}
+use borrow.Author.Rules.{rules}
+use Rattle.bits.specs.InnerAnswers.{ended_answer}
+use Rattle.bits.specs.Reader.{refused}
 use Rattle.bits.proofs.LoopLaws.{counted-more, counted_stop, counted-done}
-use Rattle.bits.proofs.Taken.{ended_is}
 use Rattle.channel_lines.specs.Spectrum.{window_band}
 use Rattle.channel_lines.proofs.SpectrumLaws.{windows-start}
 use Rattle.channel_lines.proofs.lines.read_windows.Goals as goal
 
 pub loop-v-init : goal.loop-v-init
-loop-v-init c = (omega arith, omega arith, windows-start _ _ _ _ _ _ _ _ _)
+loop-v-init c = windows-start _ _ _ _ _ _ _ _ _
 
-pub returns-in_default : goal.returns-in_default
-returns-in_default c =
-    let told = c.in_default.is in
-    let at-band = c in
-    let head = at-band in
-    let l = head.loop-v in
-    let x = head.args in
-    let e = ended_is _ at-band.read_band-read.ensures told in
-    rw told (sym (l.invariant.2 ∙ counted_stop (window_band x.number x.first x.width) _ _ _ _ _ _ _ _ (omega arith) e))
+pub returns-in_err-place : goal.returns-in_err-place
+returns-in_err-place c =
+    let x = c.args in
+    let r = c.in_err-place.field-0.0 in
+    let e : ended_answer c.from_residual.result c.read_band.new.lines ≡ refused r.number r.place = search rules in
+    e ∙ sym (c.loop-v.invariant
+    ∙ counted_stop (window_band x.number x.first x.width) _ _ _ _ _ _ _ _ c.loop-v-test.true (sym c.in_err-place.ensures))
 
 pub loop-v-preserved : goal.loop-v-preserved
 loop-v-preserved c =
-    let at-band = c in
-    let head = at-band in
-    let l = head.loop-v in
-    let x = head.args in
-    let e = ended_is _ at-band.read_band-read.ensures c.in-At.is in
-    (omega arith, omega arith, l.invariant.2 ∙ counted-more (window_band x.number x.first x.width) _ _ _ _ _ _ _ _ (omega arith) e)
+    let x = c.args in
+    c.loop-v.invariant
+    ∙ counted-more (window_band x.number x.first x.width) _ _ _ _ _ _ _ _ c.loop-v-test.true (sym c.in_ok-place.ensures)
 
 pub returns : goal.returns
-returns c = sym (c.loop-v.invariant.2 ∙ counted-done _ _ _ _ _ _ _ (omega arith))
+returns c = sym (c.loop-v.invariant ∙ counted-done _ _ _ _ _ _ _ c.loop-v-test.false)

@@ -1,5 +1,5 @@
 -- The windows that are left are read into the lines that are there, one a turn.
-use Prim.Native.Nat.{◌+◌, ◌-◌, ◌≤◌}
+use Prim.Native.Nat.{◌+◌, ◌-◌}
 use mathlib.Core.Path.{◌≡◌}
 use Rattle.bits.specs.Loop.{counted}
 use Rattle.channel_lines.specs.Spectrum.{window_band, windows_band}
@@ -7,10 +7,5 @@ use Rattle.channel_lines.proofs.lines.read_windows.Given as goal
 
 abbrev pub invariant-loop-v : goal.invariant-loop-v
 invariant-loop-v l =
-    (l.group.from ≤ l.v)
-    × (l.v ≤ l.group.from + l.group.windows)
-    × (windows_band l.number l.first l.width l.group.from l.group.windows l.initial.lines l.s l.at l.end
-    ≡ counted l.v (l.group.from + l.group.windows - l.v) (window_band l.number l.first l.width) l.lines l.s l.place l.end)
-
-abbrev pub decreases-loop-v : goal.decreases-loop-v
-decreases-loop-v l = l.group.from + l.group.windows - l.v
+    windows_band l.number l.first l.width l.fn.group.from l.fn.group.windows l.initial.lines l.s.bytes.now l.at l.s.end
+    ≡ counted l.v (l.fn.group.from + l.fn.group.windows - l.v) (window_band l.number l.first l.width) l.lines l.s.bytes.now l.place l.s.end

@@ -1,39 +1,26 @@
 -- The pulses that are left are applied to the lines that are there, one a turn.
-use mathlib.Core.Path.{sym, ◌∙◌}
-use native.Mathlib.Omega.{arith}
+use mathlib.Core.Path.{◌≡◌, sym, ◌∙◌}
+use borrow.Author.Rules.{rules}
+use Rattle.bits.specs.Reader.{refused}
+use Rattle.bits.specs.InnerAnswers.{ended_answer}
 use Rattle.bits.proofs.LoopLaws.{counted-more, counted_stop, counted-done}
-use Rattle.bits.proofs.Taken.{ended_is}
 use Rattle.channel_side.proofs.LineLaws.{apply_is, apply_start}
 use Rattle.channel_side.proofs.pulses.apply_pulses.Goals as goal
 
 pub loop-k-init : goal.loop-k-init
-loop-k-init c = (omega arith, λ s end. apply_start _ _ s _ end)
+loop-k-init c = λ s end. apply_start _ _ s _ end
 
-pub overflow_cast-targets : goal.overflow_cast-targets
-overflow_cast-targets c = omega (arith, c.requires.1.at c.loop-k.k)
-
-pub apply_pulse-applied-requires : goal.apply_pulse-applied-requires
-apply_pulse-applied-requires c =
-    let head = c in
-    omega (arith, head.requires.1.at head.loop-k.k)
-
-pub returns-in_default : goal.returns-in_default
-returns-in_default c = λ s end.
-    let told = c.in_default.is in
-    let at-pulse = c in
-    let l = at-pulse.loop-k in
-    let e = apply_is _ _ _ s _ end (sym (ended_is _ at-pulse.apply_pulse-applied.ensures told)) in
-    rw told (sym (l.invariant.1 s end ∙ counted_stop _ _ _ _ _ _ _ _ _ (omega arith) e))
+pub returns-in_err-place : goal.returns-in_err-place
+returns-in_err-place c = λ s end.
+    let l = c.loop-k in
+    let n = c.in_err-place.field-0.0.number in
+    let p = c.in_err-place.field-0.0.place in
+    let e : ended_answer c.from_residual.result c.apply_pulse.new.lines ≡ refused n p = search rules in
+    e ∙ sym (l.invariant s end ∙ counted_stop _ _ _ _ _ _ _ _ _ c.loop-k-test.true (apply_is _ _ _ s _ end c.in_err-place.ensures))
 
 pub loop-k-preserved : goal.loop-k-preserved
-loop-k-preserved c = (
-  omega arith,
-  λ s end.
-      let at-pulse = c in
-      let l = at-pulse.loop-k in
-      let e = apply_is _ _ _ s _ end (sym (ended_is _ at-pulse.apply_pulse-applied.ensures c.in-At.is)) in
-      l.invariant.1 s end ∙ counted-more _ _ _ _ _ _ _ _ _ (omega arith) e,
-)
+loop-k-preserved c = λ s end.
+    c.loop-k.invariant s end ∙ counted-more _ _ _ _ _ _ _ _ _ c.loop-k-test.true (apply_is _ _ _ s _ end c.in_ok-place.ensures)
 
 pub returns : goal.returns
-returns c = λ s end. sym (c.loop-k.invariant.1 s end ∙ counted-done _ _ _ _ _ _ _ (omega arith))
+returns c = λ s end. sym (c.loop-k.invariant s end ∙ counted-done _ _ _ _ _ _ _ c.loop-k-test.false)

@@ -1,26 +1,20 @@
--- Each turn puts the book at the next place.
+-- The part is filled with as many copies as it has places.
 use Prim.Native.Nat.{◌+◌, ◌-◌}
 use mathlib.Core.Path.{◌≡◌, sym, ◌∙◌}
 use native.Mathlib.Omega.{arith}
-use Rattle.channel_side.proofs.SectionLaws.{fill_more, fill_done}
+use lib.ListN.{length, replicate, length-replicate, drop}
+use borrow.Rule.Slice.PartMut.{mid_of}
+use Rattle.std.proofs.lemmas.List.{length-take-le, length-drop}
+use Rattle.bits.proofs.OverLaws.{over_parts}
+use Rattle.channel_side.proofs.SectionLaws.{filled}
 use Rattle.channel_side.proofs.sections.fill_books.Goals as goal
-
-pub loop-k-init : goal.loop-k-init
-loop-k-init c =
-    let q : c.args.n - 0 ≡ c.args.n = omega arith in
-    let r : c.args.from + 0 ≡ c.args.from = omega arith in
-    (omega arith, rw (q, r))
-
-pub loop-k-preserved : goal.loop-k-preserved
-loop-k-preserved c =
-    let l = c.loop-k in
-    let x = c.args in
-    let q : x.from + l.k + 1 ≡ x.from + (l.k + 1) = omega arith in
-    let r : x.n - l.k - 1 ≡ x.n - (l.k + 1) = omega arith in
-    (omega arith, l.invariant.1 ∙ fill_more l.books (x.from + l.k) (x.n - l.k) x.book (omega arith) ∙ rw (q, r))
 
 pub returns : goal.returns
 returns c =
-    let l = c.loop-k in
     let x = c.args in
-    sym (l.invariant.1 ∙ fill_done l.books _ (x.n - l.k) x.book (omega arith))
+    let n : x.from + x.n - x.from ≡ x.n = omega arith in
+    let size : length (mid_of x.from x.n x.books.now) ≡ x.n =
+    length-take-le x.n (drop x.from x.books.now) (rw (length-drop x.from x.books.now) (omega arith)) in
+    let e = rw (n, size) at (c.fill.ensures.after (λ y h. h)) in
+    let r = over_parts x.books.now x.from (replicate x.n x.book) in
+    rw (n, e) (sym (rw (length-replicate x.n x.book) at r) ∙ filled x.books.now x.from x.n x.book (omega arith))

@@ -2,13 +2,14 @@
 -- in the end.
 use Prim.Native.Nat.{◌-◌, ◌≤◌}
 use mathlib.Core.Path.{◌≡◌}
+use Rattle.bits.specs.InnerAnswers.{reads}
 use Rattle.channel_side.specs.Sections.{section_length}
 use Rattle.channel_side.proofs.SectionLaws.{length_from}
 use Rattle.channel_side.proofs.sections.read_length.Given as goal
 
 abbrev pub invariant-loop-more : goal.invariant-loop-more
 invariant-loop-more l =
-    (l.bands ≤ l.room) × (section_length l.width l.room l.s l.at l.end ≡ length_from l.width l.room l.bands l.s l.place l.end)
+    (l.bands ≤ l.room) × (reads (section_length l.width l.room) l.s l.at ≡ reads (length_from l.width l.room l.bands) l.s l.place)
 
 abbrev pub decreases-loop-more : goal.decreases-loop-more
 decreases-loop-more l = l.room - l.bands

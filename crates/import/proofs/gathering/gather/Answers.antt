@@ -4,16 +4,16 @@ use native.Mathlib.Omega.{arith}
 use borrow.Author.Rules.{rules}
 use Rattle.import.proofs.gathering.gather.Goals as goal
 
-pub loop-w-init : goal.loop-w-init
-loop-w-init g c = search rules
+pub loop-next-init : goal.loop-next-init
+loop-next-init g c = search rules
 
-pub take_frame-g-requires : goal.take_frame-g-requires
-take_frame-g-requires g c = search rules
+pub take_frame-requires : goal.take_frame-requires
+take_frame-requires g c = search rules
 
-pub loop-w-smaller : goal.loop-w-smaller
-loop-w-smaller g c =
-    let taken = c.take_frame-g in
-    omega (arith, taken.ensures.2 c.if-g.false, taken.ensures.0.0)
+pub loop-next-smaller : goal.loop-next-smaller
+loop-next-smaller g c =
+    let taken = c.in_ok-taken.ensures in
+    omega (arith, taken.2, taken.0.0)
 
-pub loop-w-preserved : goal.loop-w-preserved
-loop-w-preserved g c = search rules
+pub loop-next-preserved : goal.loop-next-preserved
+loop-next-preserved g c = search rules

@@ -4,39 +4,33 @@ use mathlib.Core.Path.{◌≡◌, refl}
 use native.Mathlib.Omega.{arith}
 use lib.ListN.{length}
 use borrow.Author.Rules.{rules}
-use Rattle.bits.proofs.Bools.{true-false}
 use Rattle.import.proofs.gathering.take_frame.Goals as goal
-
-pub returns-then-not-is_taken : goal.returns-then-not-is_taken
-returns-then-not-is_taken g c =
-    let none = c.nothing.ensures in
-    (none.0, omega (arith, none.2), λ e. absurd (true-false _ none.1 e))
 
 pub bounds-image-last : goal.bounds-image-last
 bounds-image-last g c =
-    let facts = c.is_taken.ensures c.if-not-is_taken.false in
+    let facts = c.in_ok-judge.ensures in
     let long : length c.unwrap_at-f.new.image ≡ length c.args.image.now = search rules in
     omega (arith, facts.0, facts.1, c.bytes_for.ensures, long, c.requires.1)
 
 pub overflow_cast-ends : goal.overflow_cast-ends
 overflow_cast-ends g c =
-    let facts = c.is_taken.ensures c.if-not-is_taken.false in
+    let facts = c.in_ok-judge.ensures in
     omega (arith, facts.1, c.bytes_for.ensures)
 
-pub bounds-ends-count : goal.bounds-ends-count
-bounds-ends-count g c =
-    let facts = c.is_taken.ensures c.if-not-is_taken.false in
+pub bounds-ends-g : goal.bounds-ends-g
+bounds-ends-g g c =
+    let facts = c.in_ok-judge.ensures in
     omega (arith, facts.0, c.requires.2)
 
-pub overflow_add-result-2 : goal.overflow_add-result-2
-overflow_add-result-2 g c =
-    let facts = c.is_taken.ensures c.if-not-is_taken.false in
+pub overflow_add-gathered-2 : goal.overflow_add-gathered-2
+overflow_add-gathered-2 g c =
+    let facts = c.in_ok-judge.ensures in
     let short = c.unwrap_at-f.ensures.0 in
     omega (arith, facts.0, short, c.requires.0, c.requires.3.0, c.requires.3.1)
 
 pub returns : goal.returns
 returns g c =
-    let facts = c.is_taken.ensures c.if-not-is_taken.false in
+    let facts = c.in_ok-judge.ensures in
     let n = c.bytes_for.ensures in
     let short = c.unwrap_at-f.ensures.0 in
-    ((omega (arith, facts.0), omega (arith, short, c.requires.0, c.requires.3.1), omega (arith, facts.1, n)), short, λ e. refl)
+    ((omega (arith, facts.0), omega (arith, short, c.requires.0, c.requires.3.1), omega (arith, facts.1, n)), short, refl)

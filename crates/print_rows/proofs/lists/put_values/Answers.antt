@@ -12,23 +12,20 @@ use Rattle.print_rows.specs.InnerEach.{value_text}
 use Rattle.print_rows.proofs.EachLaws.{each_turn, each_last}
 use Rattle.print_rows.proofs.lists.put_values.Goals as goal
 
-pub loop-i-preserved : goal.loop-i-preserved
-loop-i-preserved c =
-    let l = c.loop-i in
+pub loop-place-preserved : goal.loop-place-preserved
+loop-place-preserved c =
+    let l = c.loop-place in
     let xs = c.args.lines.now in
-    let same = to_z-of_z w16 (get_or xs l.i (pos 0)) (search rules) in (
-      omega arith,
-      search rules,
+    let same = to_z-of_z w16 (get_or xs l.place (pos 0)) (search rules) in (
       omega (arith, c.put_value-to.ensures.1),
-      each_turn value_text (line_of l.line l.to) _ xs l.i (pos 0) (omega arith) (rw same at c.put_value-to.ensures.0)
-          ∙ l.invariant.3,
+      each_turn value_text (line_of l.line l.to) _ xs l.place (pos 0) c.loop-place-test.true (rw same at c.put_value-to.ensures.0)
+          ∙ l.invariant.1,
     )
 
 pub returns : goal.returns
 returns c =
-    let l = c.loop-i in
-    let xs = c.args.lines.now in
-    (each_last value_text (line_of l.line l.to) xs l.i (omega arith) ∙ l.invariant.3, omega arith)
+    let l = c.loop-place in
+    (each_last value_text (line_of l.line l.to) c.args.lines.now l.place c.loop-place-test.false ∙ l.invariant.1, omega arith)
 
-pub loop-i-init : goal.loop-i-init
-loop-i-init c = (omega arith, refl, omega arith, refl)
+pub loop-place-init : goal.loop-place-init
+loop-place-init c = (omega arith, refl)

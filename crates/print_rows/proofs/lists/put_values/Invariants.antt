@@ -1,16 +1,12 @@
 -- Each turn puts the next: what is put so far and what is left make all of them.
 -- Assumes nothing.
-use Prim.Native.Nat.{◌≤◌, ◌-◌, ◌+◌, ◌*◌}
+use Prim.Native.Nat.{◌≤◌, ◌+◌, ◌*◌}
 use mathlib.Core.Path.{◌≡◌}
-use lib.ListN.{length}
 use Rattle.print_lines.specs.InnerText.{line_of, with_text}
 use Rattle.print_rows.proofs.EachLaws.{values_from}
 use Rattle.print_rows.proofs.lists.put_values.Given as goal
 
-abbrev pub invariant-loop-i : goal.invariant-loop-i
-invariant-loop-i l =
-    (l.i ≤ length l.lines) × (length l.line ≡ length l.initial.line) × (l.to ≤ l.at + 12 * l.i)
-    × (with_text (line_of l.line l.to) (values_from l.lines l.i) ≡ with_text (line_of l.initial.line l.at) (values_from l.lines 0))
-
-abbrev pub decreases-loop-i : goal.decreases-loop-i
-decreases-loop-i l = length l.lines - l.i
+abbrev pub invariant-loop-place : goal.invariant-loop-place
+invariant-loop-place l =
+    (l.to ≤ l.at + 12 * l.place)
+    × (with_text (line_of l.line l.to) (values_from l.lines l.place) ≡ with_text (line_of l.initial.line l.at) (values_from l.lines 0))

@@ -5,16 +5,10 @@ use Rattle.stereo_writer.proofs.writing.write.Goals as goal
 
 pub returns-then-not-is_sound : goal.returns-then-not-is_sound
 unfolding writing written_over
-returns-then-not-is_sound c =
-    let at-sound = c in (
-      c.refused.ensures ∙ rw (← at-sound.is_sound.ensures, c.if-not-is_sound.true),
-      rw c.refused.ensures,
-    )
+returns-then-not-is_sound c = (
+  c.refused.ensures ∙ rw (← c.is_sound.ensures, c.if-not-is_sound.true),
+  rw c.refused.ensures,
+)
 
 pub write_sound-requires : goal.write_sound-requires
-write_sound-requires c =
-    let at-sound = c in
-    sym at-sound.is_sound.ensures ∙ c.if-not-is_sound.false
-
-pub returns : goal.returns
-returns c = c.write_sound.ensures
+write_sound-requires c = sym c.is_sound.ensures ∙ c.if-not-is_sound.false

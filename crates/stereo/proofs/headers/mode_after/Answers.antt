@@ -1,9 +1,0 @@
--- A mode that was sent replaces the last one.
-use borrow.Author.Tests.{eq-eqb, ne_eqb}
-use Rattle.stereo.proofs.headers.mode_after.Goals as goal
-
-pub returns-then-on-eq1 : goal.returns-then-on-eq1
-returns-then-on-eq1 c = rw (eq-eqb _ _ c.if-on-eq1.true)
-
-pub returns : goal.returns
-returns c = rw (ne_eqb _ _ c.if-on-eq1.false)
