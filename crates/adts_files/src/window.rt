@@ -13,13 +13,6 @@ pub struct Window {
     pub ended: bool,
 }
 
-// How far a lent buffer is filled, and whether the input has ended.
-#[derive(Clone, Copy)]
-struct Filled {
-    end: usize,
-    ended: bool,
-}
-
 // The window before anything is read.
 pub fn empty() -> Window
     ensures { (result.start ≡ 0) × (result.end ≡ 0) }
@@ -39,47 +32,48 @@ fn move_front(buffer: &mut [u8], start: usize, end: usize)
     buffer.copy_within(start..end, 0);
 }
 
-// Standard input is read after the first bytes, until a frame's most are there or the input ends.
-fn read_on(input: &mut impl Read, buffer: &mut [u8], first: usize) -> std::io::Result<Filled>
-    requires { (first ≤ 8191) × (8191 ≤ length buffer.old) }
-    ensures kept { take first buffer.new ≡ take first buffer.old }
-    ensures ok { IfOk result (λ read. (first ≤ read.end) × (read.end ≤ length buffer.new) × Enough read.ended read.end) }
+// Standard input is read behind a window at the front, until a frame's most are in it or the input ends.
+fn read_on(input: &mut impl Read, buffer: &mut [u8], w: &mut Window) -> std::io::Result<()>
+    requires { (w.old.end ≤ 8191) × (8191 ≤ length buffer.old) }
+    ensures kept { (w.new.start ≡ w.old.start) × (w.old.end ≤ w.new.end) × (w.new.end ≤ length buffer.new)
+        × (take w.old.end buffer.new ≡ take w.old.end buffer.old) }
+    ensures ok { IfOk result (λ done. Enough w.new.ended w.new.end) }
 {
-    let mut end = first;
     // A `while`, as a read brings as many bytes as there are.
-    while end < 8191 {
-        let more = input.read(&mut buffer[end..])?;
+    while w.end < 8191 {
+        let more = input.read(&mut buffer[w.end..])?;
         if more == 0 {
-            return Ok(Filled { end, ended: true });
+            w.ended = true;
+            return Ok(());
         }
-        end += more;
+        w.end += more;
     }
-    Ok(Filled { end, ended: false })
+    Ok(())
 }
 
-// The window with a frame's most in it, or all that is left: what is in it stays, and what comes next is read behind it. After a read that
-// fails it stands at the front.
-pub fn refill(input: &mut impl Read, buffer: &mut [u8], w: Window) -> std::io::Result<Window>
-    requires { (w.start ≤ w.end) × (w.end ≤ length buffer.old) × (8191 ≤ length buffer.old) }
-    ensures ok { IfOk result (λ next. (next.start ≤ next.end) × (next.end ≤ length buffer.new)
-        × Kept w.start w.end buffer.old next.start next.end buffer.new
-        × Enough next.ended (next.end - next.start)) }
-    ensures err { OnErr result (take (w.end - w.start) buffer.new ≡ take (w.end - w.start) (drop w.start buffer.old)) }
+// The window gets a frame's most, or all that is left: what is in it stays, and what comes next is read behind it. Where a read fails,
+// what was read before it is in the window, too, which stands at the front then.
+pub fn refill(input: &mut impl Read, buffer: &mut [u8], w: &mut Window) -> std::io::Result<()>
+    requires { (w.old.start ≤ w.old.end) × (w.old.end ≤ length buffer.old) × (8191 ≤ length buffer.old) }
+    ensures kept { (w.new.start ≤ w.new.end) × (w.new.end ≤ length buffer.new)
+        × Kept w.old.start w.old.end buffer.old w.new.start w.new.end buffer.new }
+    ensures ok { IfOk result (λ done. Enough w.new.ended (w.new.end - w.new.start)) }
+    ensures err { OnErr result (w.new.start ≡ 0) }
 {
     if w.ended {
-        return Ok(w);
+        return Ok(());
     }
     let enough = 8191 <= w.end - w.start;
     if enough {
-        return Ok(w);
+        return Ok(());
     }
     move_front(buffer, w.start, w.end);
-    let read = read_on(input, buffer, w.end - w.start)?;
-    Ok(Window {
+    *w = Window {
         start: 0,
-        end: read.end,
-        ended: read.ended,
-    })
+        end: w.end - w.start,
+        ended: false,
+    };
+    read_on(input, buffer, w)
 }
 
 // The window after the first bytes of it.

@@ -187,9 +187,9 @@ fn extension_bytes(there: u32, size: u32, esc: u32, phase: u32, count: usize, va
 }
 
 // What stands before the envelopes is put at the front of a buffer.
-fn put_head(out: &mut [u8], bits: usize, contents: Contents)
+fn put_head(out: &mut [u8], bits: usize, contents: &Contents)
     requires { 22 ≤ length out.old }
-    ensures { (out.new ≡ over out.old 0 (answer_head bits contents)) × (length (answer_head bits contents) ≡ 22) }
+    ensures { (out.new ≡ over out.old 0 (answer_head bits contents.now)) × (length (answer_head bits contents.now) ≡ 22) }
 {
     let word = bytes::word_of(bits);
     bytes::put(out, 0, &word);
@@ -221,28 +221,26 @@ fn put_envelope(out: &mut [u8], at: usize, iid: Row, icc: Row, phases: Phases)
 }
 
 // The four envelopes are put where they stand.
-fn put_envelopes(out: &mut [u8], iid: [Row; 4], icc: [Row; 4], phases: [Phases; 4])
+fn put_envelopes(out: &mut [u8], iid: &[Row; 4], icc: &[Row; 4], phases: &[Phases; 4])
     requires { 582 ≤ length out.old }
-    ensures { (out.new ≡ over out.old 22 (envelopes_bytes iid icc phases 4))
-        × (length (envelopes_bytes iid icc phases 4) ≡ 560) }
+    ensures { (out.new ≡ over out.old 22 (envelopes_bytes iid.now icc.now phases.now 4))
+        × (length (envelopes_bytes iid.now icc.now phases.now 4) ≡ 560) }
 {
     for e in 0..4 {
         put_envelope(out, 22 + 140 * e, iid[e], icc[e], phases[e]);
     }
 }
 
-// An answer is put at the front of a buffer: the bits used, and the contents. A call of its own, so that it takes stack only while it
-// puts.
-#[inline(never)]
-pub fn put_answer(out: &mut [u8], bits: usize, contents: Contents)
+// An answer is put at the front of a buffer: the bits used, and the contents.
+pub fn put_answer(out: &mut [u8], bits: usize, contents: &Contents)
     requires { 582 ≤ length out.old }
-    ensures { out.new ≡ over out.old 0 (answer_bytes bits contents) }
+    ensures { out.new ≡ over out.old 0 (answer_bytes bits contents.now) }
 {
     put_head(out, bits, contents);
     put_envelopes(
         out,
-        contents.iid,
-        contents.icc,
-        contents.extension.part.body.phases,
+        &contents.iid,
+        &contents.icc,
+        &contents.extension.part.body.phases,
     );
 }

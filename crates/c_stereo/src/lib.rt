@@ -50,17 +50,17 @@ fn stereo_refusal(state: &[u8], size: usize, start: usize, end: usize, room: usi
 
 // What comes back of a reading: where it is accepted, the lent state is the next one and the lent answer gets its bits and contents; else
 // the mark of the state is out of step.
-fn told(state: &mut [u8], answer: &mut [u8], r: Reading) -> u32
-    requires { (146 ≤ length state.old) × (582 ≤ length answer.old) × (r.place < 16777216) }
-    ensures { (result ≡ returned r.number r.place) × ((state.new ≡ moved_on state.old r)
-        × (answer.new ≡ answered r.number (answer_bytes r.bits r.contents) answer.old)) }
+fn told(state: &mut [u8], answer: &mut [u8], r: &Reading) -> u32
+    requires { (146 ≤ length state.old) × (582 ≤ length answer.old) × (r.now.place < 16777216) }
+    ensures { (result ≡ returned r.now.number r.now.place) × ((state.new ≡ moved_on state.old r.now)
+        × (answer.new ≡ answered r.now.number (answer_bytes r.now.bits r.now.contents) answer.old)) }
 {
     if r.number != 0 {
         state[5] = 0;
         return returned(r.number, r.place);
     }
     states::put_state(state, r.state);
-    answers::put_answer(answer, r.bits, r.contents);
+    answers::put_answer(answer, r.bits, &r.contents);
     returned(r.number, r.place)
 }
 
@@ -86,5 +86,5 @@ pub fn oarcradler_read_stereo(
     }
     let before = states::state_at(state);
     let r = stereo_reader::read_bytes(before, &buf[start..end]);
-    told(state, answer, r)
+    told(state, answer, &r)
 }

@@ -47,7 +47,7 @@ pub fn oarcradler_write_stereo(
     }
     let before = states::state_at(state);
     let wanted = answers::contents_at(contents);
-    let w = writing::write_sound(out, before, wanted);
+    let w = writing::write_sound(out, before, &wanted);
     if w.number != 0 {
         return w.number as u32;
     }

@@ -17,10 +17,20 @@ use Rattle.bits.specs.Field.{field}
 use Rattle.bits.specs.Loop.{counted}
 use Rattle.bits.proofs.Signed.{abs_neg}
 use Rattle.words.specs.Escape.{escape}
+use Rattle.words.proofs.EscapeLaws.{escape-spelt}
 use Rattle.channel_words.specs.Books.{Book}
 use Rattle.channel_words.specs.Tuple.{digit, signed, value, escape_at, escaped, put}
 use Rattle.channel_words.specs.InnerWords.{kind, values_by, put_by, magnitude_of, put_escaped}
 use Rattle.channel_words.proofs.ValueLaws.{two, put_two}
+
+-- an escape's magnitude is 8191 at most, and so is a number that is none
+pub magnitude_bound : (d : ℕ) → d ≤ 16 → (s : List ℕ) (at end m next : ℕ) → magnitude_of d s at end ≡ got m next → m ≤ 8191
+unfolding magnitude_of
+magnitude_bound d h s at end m next e = go (eqb d 16) e
+  where
+    go : (b : Bool) → pick b escape (give d) s at end ≡ got m next → m ≤ 8191
+    go true e = let w = escape-spelt.law s at end next m e in omega (arith, w.4)
+    go false e = let q : d ≡ m = cc in omega arith
 
 -- the magnitude and the sign of a value
 signed_abs : (d x : ℕ) → nat_abs (signed d x) ≡ d

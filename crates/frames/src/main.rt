@@ -43,10 +43,9 @@ fn list_frames(input: &mut impl Read, out: &impl Print, buffer: &mut [u8]) -> Re
     let mut w = window::empty();
     // A `loop`, as only a frame says where the next one is.
     loop {
-        let Ok(next) = window::refill(input, buffer, w) else {
+        if window::refill(input, buffer, &mut w).is_err() {
             return Err(Fault::Unreadable);
-        };
-        w = next;
+        }
         if w.start == w.end {
             return Ok(());
         }

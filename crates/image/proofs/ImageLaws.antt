@@ -108,6 +108,31 @@ header-sound s e = go (sound_image s) refl (known_index (index_of s)) e
     go true q false e = absurd (omega arith)
     go false q b e = absurd (omega arith)
 
+-- 5 is answered exactly where the image is not sound
+pub header_5 : (s : List ℕ) → (header_of s).number ≡ 5 → (sound_image s ≡ false) × (header_of s ≡ refused_header 5)
+unfolding header_of
+header_5 s e = go (sound_image s) (known_index (index_of s)) e
+  where
+    go : (a b : Bool)
+        → (pick a (pick b (record { number = 0; count = count_of s; index = index_of s }) (refused_header 3)) (refused_header 5)).number ≡ 5
+        → (a ≡ false)
+        × (pick a (pick b (record { number = 0; count = count_of s; index = index_of s }) (refused_header 3)) (refused_header 5)
+        ≡ refused_header 5)
+    go true true e = absurd (omega arith)
+    go true false e = absurd (omega arith)
+    go false b e = (refl, refl)
+
+pub header-not_5 : (s : List ℕ) → ((header_of s).number ≡ 5 → ⊥) → sound_image s ≡ true
+unfolding header_of
+header-not_5 s = go (sound_image s)
+  where
+    go : (a : Bool)
+        → ((pick a (pick (known_index (index_of s)) (record { number = 0; count = count_of s; index = index_of s }) (refused_header 3))
+        (refused_header 5)).number ≡ 5 → ⊥)
+        → a ≡ true
+    go true f = refl
+    go false f = absurd (f refl)
+
 -- a header that is accepted for an output is the image's, with few payloads, and the output has room for them
 pub header-for : (each : ℕ) (s : List ℕ) (room : ℕ) → (header_for each s room).number ≡ 0
     → (header_for each s room ≡ header_of s) × ((header_of s).number ≡ 0) × ((header_of s).count ≤ 1024)

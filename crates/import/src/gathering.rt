@@ -136,11 +136,10 @@ pub fn gather(
     let mut w = window::empty();
     // A `loop`, as only a frame says where the next one is.
     loop {
-        let Ok(next) = window::refill(input, buffer, w) else {
+        if window::refill(input, buffer, &mut w).is_err() {
             let _ = err.println("oarcradler: standard input cannot be read");
             return Err(Told);
-        };
-        w = next;
+        }
         if w.start == w.end {
             return Ok(g);
         }

@@ -2,14 +2,14 @@
 ghost use Rattle.std.specs.Prelude.{◌≡◌, ◌≤◌, eqb, replicate};
 ghost use Rattle.bits.specs.Reader.{pick};
 ghost use Rattle.bits.specs.Bits.{bits_from};
-ghost use Rattle.bits.specs.InnerAnswers.{answer_of, reads};
+ghost use Rattle.bits.specs.InnerAnswers.{answer_of, ended_answer, reads};
 ghost use Rattle.stereo_indices.specs.Record.{record_of};
 ghost use Rattle.stereo.specs.Extension.{no_phases, no_body, no_part, no_extension, phases_in, phases_of, phases, has_mode, phase_flag, v0};
 ghost use Rattle.stereo.specs.Extension.{part, announced, esc_count, extension_sent, extension};
 
 use crate::{Body, Extension, Part, PhaseRecords, Phases};
 use bits::fields::renumbered;
-use bits::{Answer, Bits, bits_at, refused};
+use bits::{Answer, Bits, Ended, bits_at, refused};
 use stereo_indices::{Kind, Record, rows};
 use tables::StereoLookups;
 
@@ -278,7 +278,7 @@ fn read_extension_sent(
     Ok((extension, next))
 }
 
-// The extension, where it is enabled.
+// The extension, where it is enabled, put where it is lent.
 #[tactic(auto, unfolding(crate::specs::Extension::extension))]
 pub fn read_extension(
     s: &Bits,
@@ -288,12 +288,16 @@ pub fn read_extension(
     records: PhaseRecords,
     n: usize,
     lookups: &StereoLookups,
-) -> Answer<Extension>
+    lent: &mut Extension,
+) -> Ended
     requires { n ≤ 4 }
-    ensures { answer_of result ≡ reads (extension on mode records.ipd records.opd n) s.now at }
+    ensures { ended_answer result lent.new ≡ reads (extension on mode records.ipd records.opd n) s.now at }
 {
     if !on {
-        return Ok((no_extension(), at));
+        *lent = no_extension();
+        return Ok(at);
     }
-    read_extension_sent(s, at, mode, records, n, lookups)
+    let (sent, next) = read_extension_sent(s, at, mode, records, n, lookups)?;
+    *lent = sent;
+    Ok(next)
 }

@@ -1,15 +1,13 @@
 // A payload's contents, as they are read from a state.
 ghost use Rattle.std.specs.Prelude.{◌≡◌, ◌≤◌};
-ghost use Rattle.bits.specs.InnerAnswers.{answer_of, reads};
+ghost use Rattle.bits.specs.InnerAnswers.{ended_answer, reads};
 ghost use Rattle.stereo_indices.specs.Rows.{rows};
 ghost use Rattle.stereo_indices.specs.declared.Kind.TheVariants.{Iid, Icc};
 ghost use Rattle.stereo.specs.Extension.{extension};
 ghost use Rattle.stereo.specs.Payload.{no_contents, envelopes, payload};
 
-use crate::{
-    Contents, Extension, Frame, Header, PhaseRecords, Setup, State, extensions, frames, headers,
-};
-use bits::{Answer, Bits};
+use crate::{Contents, Extension, PhaseRecords, Setup, State, extensions, frames, headers};
+use bits::{Bits, Ended};
 use stereo_indices::{Kind, Row, rows};
 use tables::StereoLookups;
 
@@ -49,9 +47,10 @@ fn read_levels(
     setup: Setup,
     n: usize,
     lookups: &StereoLookups,
-) -> Answer<[Row; 4]>
+    levels: &mut [Row; 4],
+) -> Ended
     requires { n ≤ 4 }
-    ensures { answer_of result ≡ reads (rows Iid setup.iid setup.iidmode state.iid n) s.now at }
+    ensures { ended_answer result levels.new ≡ reads (rows Iid setup.iid setup.iidmode state.iid n) s.now at }
 {
     rows::read_kind(
         s,
@@ -62,6 +61,7 @@ fn read_levels(
         state.iid,
         n,
         lookups,
+        levels,
     )
 }
 
@@ -73,9 +73,10 @@ fn read_coherences(
     setup: Setup,
     n: usize,
     lookups: &StereoLookups,
-) -> Answer<[Row; 4]>
+    coherences: &mut [Row; 4],
+) -> Ended
     requires { n ≤ 4 }
-    ensures { answer_of result ≡ reads (rows Icc setup.icc setup.iccmode state.icc n) s.now at }
+    ensures { ended_answer result coherences.new ≡ reads (rows Icc setup.icc setup.iccmode state.icc n) s.now at }
 {
     rows::read_kind(
         s,
@@ -86,6 +87,7 @@ fn read_coherences(
         state.icc,
         n,
         lookups,
+        coherences,
     )
 }
 
@@ -97,49 +99,57 @@ fn read_rest(
     setup: Setup,
     n: usize,
     lookups: &StereoLookups,
-) -> Answer<Extension>
+    rest: &mut Extension,
+) -> Ended
     requires { n ≤ 4 }
-    ensures { answer_of result ≡ reads (extension setup.ext setup.iidmode state.ipd state.opd n) s.now at }
+    ensures { ended_answer result rest.new ≡ reads (extension setup.ext setup.iidmode state.ipd state.opd n) s.now at }
 {
     let records = phase_records(state);
-    extensions::read_extension(s, at, setup.ext, setup.iidmode, records, n, lookups)
+    extensions::read_extension(s, at, setup.ext, setup.iidmode, records, n, lookups, rest)
 }
 
-// What the envelopes of a frame hold.
+// What the envelopes of a frame hold, put beside it.
 #[tactic(auto, unfolding(crate::specs::Payload::envelopes))]
 fn read_envelopes(
     s: &Bits,
     at: usize,
     state: State,
-    header: Header,
     setup: Setup,
-    frame: Frame,
     lookups: &StereoLookups,
-) -> Answer<Contents>
-    requires { frame.envelopes ≤ 4 }
-    ensures { answer_of result ≡ reads (envelopes state header setup frame) s.now at }
+    contents: &mut Contents,
+) -> Ended
+    requires { contents.old.frame.envelopes ≤ 4 }
+    ensures { ended_answer result contents.new
+        ≡ reads (envelopes state contents.old.header setup contents.old.frame) s.now at }
 {
-    let n = frame.envelopes;
-    let (iid, after_iid) = read_levels(s, at, state, setup, n, lookups)?;
-    let (icc, after_icc) = read_coherences(s, after_iid, state, setup, n, lookups)?;
-    let (extension, next) = read_rest(s, after_icc, state, setup, n, lookups)?;
-    let contents = Contents {
-        header,
-        frame,
-        iid,
-        icc,
-        extension,
-    };
-    Ok((contents, next))
+    let n = contents.frame.envelopes;
+    let after_iid = read_levels(s, at, state, setup, n, lookups, &mut contents.iid)?;
+    let after_icc = read_coherences(s, after_iid, state, setup, n, lookups, &mut contents.icc)?;
+    read_rest(
+        s,
+        after_icc,
+        state,
+        setup,
+        n,
+        lookups,
+        &mut contents.extension,
+    )
 }
 
-// A payload's contents, from its first bit.
+// A payload's contents, from its first bit: they are put where they are lent, part by part.
 #[tactic(auto, unfolding(crate::specs::Payload::payload))]
-pub fn read_payload(s: &Bits, state: State, lookups: &StereoLookups) -> Answer<Contents>
-    ensures { answer_of result ≡ reads (payload state) s.now 0 }
+pub fn read_payload(
+    s: &Bits,
+    state: State,
+    lookups: &StereoLookups,
+    contents: &mut Contents,
+) -> Ended
+    ensures { ended_answer result contents.new ≡ reads (payload state) s.now 0 }
 {
     let (header, after_header) = headers::read_header(s, 0)?;
+    contents.header = header;
     let (frame, after_frame) = frames::read_frame(s, after_header)?;
+    contents.frame = frame;
     let setup = headers::setup_after(state.setup, header);
-    read_envelopes(s, after_frame, state, header, setup, frame, lookups)
+    read_envelopes(s, after_frame, state, setup, lookups, contents)
 }

@@ -9,8 +9,8 @@ use crate::{Body, Contents, PhaseRecords, Phases, Setup, State, extensions, head
 use stereo_indices::{Record, Row, records, rows};
 
 // The row of an envelope; there are four.
-fn row_at(rows: [Row; 4], i: usize) -> Row
-    ensures { result ≡ get_or rows i no_row }
+fn row_at(rows: &[Row; 4], i: usize) -> Row
+    ensures { result ≡ get_or rows.now i no_row }
 {
     if i < 4 {
         return rows[i];
@@ -19,8 +19,8 @@ fn row_at(rows: [Row; 4], i: usize) -> Row
 }
 
 // The phases of an envelope; there are four.
-fn phases_at(phases: [Phases; 4], i: usize) -> Phases
-    ensures { result ≡ get_or phases i no_phases }
+fn phases_at(phases: &[Phases; 4], i: usize) -> Phases
+    ensures { result ≡ get_or phases.now i no_phases }
 {
     if i < 4 {
         return phases[i];
@@ -29,33 +29,36 @@ fn phases_at(phases: [Phases; 4], i: usize) -> Phases
 }
 
 // Whether the first row of a kind is across frequency.
-fn is_across(rows: [Row; 4]) -> bool
-    ensures { result ≡ across rows }
+fn is_across(rows: &[Row; 4]) -> bool
+    ensures { result ≡ across rows.now }
 {
     row_at(rows, 0).time == 0
 }
 
 // Whether the first phases are across frequency, where there are any.
 #[tactic(auto, unfolding(crate::specs::Restart::phases_across))]
-fn are_phases_across(body: Body) -> bool
-    ensures { result ≡ phases_across body }
+fn are_phases_across(body: &Body) -> bool
+    ensures { result ≡ phases_across body.now }
 {
-    let first = phases_at(body.phases, 0);
-    body.phase != 1 || (first.ipd.time == 0 && first.opd.time == 0)
+    if body.phase != 1 {
+        return true;
+    }
+    let first = phases_at(&body.phases, 0);
+    first.ipd.time == 0 && first.opd.time == 0
 }
 
 // Whether contents are a restart.
 #[tactic(auto, unfolding(crate::specs::Restart::restart))]
-pub fn is_restart(contents: Contents) -> bool
-    ensures { result ≡ restart contents }
+pub fn is_restart(contents: &Contents) -> bool
+    ensures { result ≡ restart contents.now }
 {
     contents.header.there == 1
         && contents.header.iid == 1
         && contents.header.icc == 1
         && 1 <= contents.frame.envelopes
-        && is_across(contents.iid)
-        && is_across(contents.icc)
-        && are_phases_across(contents.extension.part.body)
+        && is_across(&contents.iid)
+        && is_across(&contents.icc)
+        && are_phases_across(&contents.extension.part.body)
 }
 
 // A kind's record after a payload of n envelopes, of which these are the last one's indices.
@@ -73,27 +76,27 @@ fn record_after(on: bool, mode: u32, rec: Record, n: usize, indices: [i8; 34]) -
 }
 
 // The indices of the last of n envelopes; with none, those of the first.
-fn last_row(n: usize, rows: [Row; 4]) -> [i8; 34]
-    ensures { result ≡ last_row n rows }
+fn last_row(n: usize, rows: &[Row; 4]) -> [i8; 34]
+    ensures { result ≡ last_row n rows.now }
 {
     row_at(rows, n.saturating_sub(1)).indices
 }
 
 // The phases of the last of n envelopes; with none, those of the first.
-fn last_phases(n: usize, phases: [Phases; 4]) -> Phases
-    ensures { result ≡ last_phases n phases }
+fn last_phases(n: usize, phases: &[Phases; 4]) -> Phases
+    ensures { result ≡ last_phases n phases.now }
 {
     phases_at(phases, n.saturating_sub(1))
 }
 
 // The phase records after a payload.
 #[tactic(auto, unfolding(crate::specs::Carried::phase_records))]
-fn phases_after(setup: Setup, state: State, n: usize, body: Body) -> PhaseRecords
-    ensures { result ≡ phase_records setup state n body }
+fn phases_after(setup: Setup, state: State, n: usize, body: &Body) -> PhaseRecords
+    ensures { result ≡ phase_records setup state n body.now }
 {
     let on = body.phase == 1;
     let mode = setup.iidmode;
-    let last = last_phases(n, body.phases);
+    let last = last_phases(n, &body.phases);
     PhaseRecords {
         ipd: record_after(on, mode, state.ipd, n, last.ipd.indices),
         opd: record_after(on, mode, state.opd, n, last.opd.indices),
@@ -102,14 +105,14 @@ fn phases_after(setup: Setup, state: State, n: usize, body: Body) -> PhaseRecord
 
 // The state after a payload that was read from another.
 #[tactic(auto, unfolding(crate::specs::Carried::carried, crate::specs::Carried::carried_in))]
-pub fn carried(state: State, contents: Contents) -> State
-    ensures { result ≡ carried state contents }
+pub fn carried(state: State, contents: &Contents) -> State
+    ensures { result ≡ carried state contents.now }
 {
     let setup = headers::setup_after(state.setup, contents.header);
     let n = contents.frame.envelopes;
-    let levels = last_row(n, contents.iid);
-    let coherences = last_row(n, contents.icc);
-    let phases = phases_after(setup, state, n, contents.extension.part.body);
+    let levels = last_row(n, &contents.iid);
+    let coherences = last_row(n, &contents.icc);
+    let phases = phases_after(setup, state, n, &contents.extension.part.body);
     State {
         setup,
         iid: record_after(setup.iid, setup.iidmode, state.iid, n, levels),

@@ -1,9 +1,9 @@
 -- The soundness of a record, index by index.
 -- Assumes nothing.
 use Prim.Native.Nat.{ℕ, ◌+◌, ◌<◌}
-use mathlib.Core.Path.{◌≡◌, sym, ◌∙◌, ap}
+use mathlib.Core.Path.{◌≡◌, refl, sym, ◌∙◌, ap}
 use mathlib.Core.List.{List}
-use mathlib.Core.Bool.{true, false, ◌&&◌}
+use mathlib.Core.Bool.{Bool, true, false, ◌&&◌}
 use native.Mathlib.Numerals.{add-one}
 use lib.ListN.{length, drop, get_or}
 use lib.Seq.{drop-cons, drop-length}
@@ -18,16 +18,15 @@ module _ (k : Kind) (mode i : ℕ) (xs : List ℤ) where
   unfolding sound_from
   sound-next h = rw (drop-cons xs i (pos 0) h, add-one)
 
-  -- those after a sound index decide
-  pub sound_more : i < length xs → sound_index k mode i (get_or xs i (pos 0)) ≡ true
-      → sound_from k mode i (drop i xs) ≡ sound_from k mode (i + 1) (drop (i + 1) xs)
-  sound_more h e = sound-next h ∙ rw e
+  -- one index more is known
+  pub sound_more : (sound : Bool) → i < length xs
+      → (sound && sound_from k mode i (drop i xs))
+      ≡ ((sound && sound_index k mode i (get_or xs i (pos 0))) && sound_from k mode (i + 1) (drop (i + 1) xs))
+  sound_more true h = sound-next h
+  sound_more false h = refl
 
-  -- one that is not sound is enough
-  pub sound-stop : i < length xs → sound_index k mode i (get_or xs i (pos 0)) ≡ false → sound_from k mode i (drop i xs) ≡ false
-  sound-stop h e = sound-next h ∙ rw e
-
-  -- none is left
-  pub sound-done : length xs ≡ i → sound_from k mode i (drop i xs) ≡ true
+  -- all are
+  pub sound-done : (sound : Bool) → length xs ≡ i → (sound && sound_from k mode i (drop i xs)) ≡ sound
   unfolding sound_from
-  sound-done e = ap (λ (ys : List ℤ). sound_from k mode i ys) (ap (λ (n : ℕ). drop n xs) (sym e) ∙ drop-length xs)
+  sound-done true e = ap (λ (ys : List ℤ). sound_from k mode i ys) (ap (λ (n : ℕ). drop n xs) (sym e) ∙ drop-length xs)
+  sound-done false e = refl

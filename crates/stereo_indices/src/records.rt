@@ -57,16 +57,15 @@ fn sound_index(kind: Kind, mode: u32, i: usize, x: i8) -> bool
     kinds::within(0, 0, x as i16)
 }
 
-// Whether 34 indices are sound.
+// Whether 34 indices are sound. All of them are asked, as a stop at the first that is not takes longer.
 fn sound_indices(kind: Kind, mode: u32, indices: [i8; 34]) -> bool
     ensures { result ≡ sound_from kind mode 0 indices }
 {
+    let mut sound = true;
     for i in 0..34 {
-        if !sound_index(kind, mode, i, indices[i]) {
-            return false;
-        }
+        sound &= sound_index(kind, mode, i, indices[i]);
     }
-    true
+    sound
 }
 
 // Whether a record is sound.

@@ -1,10 +1,10 @@
 // The rows of one kind: of each envelope a time flag and its indices.
 ghost use Rattle.std.specs.Prelude.{◌≡◌, ◌≤◌};
-ghost use Rattle.bits.specs.InnerAnswers.{answer_of, reads};
+ghost use Rattle.bits.specs.InnerAnswers.{answer_of, ended_answer, reads};
 ghost use Rattle.stereo_indices.specs.Rows.{no_row, no_rows, allowed, row, rows_of, rows};
 
 use crate::{Kind, Record, Row, indices, records};
-use bits::{Answer, Bits, refused};
+use bits::{Answer, Bits, Ended, refused};
 use tables::StereoLookups;
 
 // A row of which nothing is sent.
@@ -53,7 +53,7 @@ pub fn read_row(
     Ok((Row { time, indices }, next))
 }
 
-// One kind in n envelopes, each after those before it.
+// One kind in n envelopes, each after those before it: four rows are put where they are lent, those past the n-th not sent.
 pub fn read_rows(
     s: &Bits,
     at: usize,
@@ -62,11 +62,12 @@ pub fn read_rows(
     rec: Record,
     n: usize,
     lookups: &StereoLookups,
-) -> Answer<[Row; 4]>
+    rows: &mut [Row; 4],
+) -> Ended
     requires { n ≤ 4 }
-    ensures { answer_of result ≡ reads (rows_of kind mode rec n) s.now at }
+    ensures { ended_answer result rows.new ≡ reads (rows_of kind mode rec n) s.now at }
 {
-    let mut rows = no_rows();
+    *rows = no_rows();
     let mut last = rec;
     let mut place = at;
     for k in 0..n {
@@ -76,7 +77,7 @@ pub fn read_rows(
         rows[k] = row;
         place = next;
     }
-    Ok((rows, place))
+    Ok(place)
 }
 
 // One kind in n envelopes; not enabled, it gives zeros.
@@ -90,12 +91,14 @@ pub fn read_kind(
     rec: Record,
     n: usize,
     lookups: &StereoLookups,
-) -> Answer<[Row; 4]>
+    lent: &mut [Row; 4],
+) -> Ended
     requires { n ≤ 4 }
-    ensures { answer_of result ≡ reads (rows kind on mode rec n) s.now at }
+    ensures { ended_answer result lent.new ≡ reads (rows kind on mode rec n) s.now at }
 {
     if !on {
-        return Ok((no_rows(), at));
+        *lent = no_rows();
+        return Ok(at);
     }
-    read_rows(s, at, kind, mode, rec, n, lookups)
+    read_rows(s, at, kind, mode, rec, n, lookups, lent)
 }

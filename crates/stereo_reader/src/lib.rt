@@ -66,16 +66,16 @@ pub fn read_from(state: State) -> State
 }
 
 // Whether contents are accepted: in step, or where they are a restart.
-pub fn is_accepted(state: State, contents: Contents) -> bool
-    ensures { result ≡ state.instep || restart contents }
+pub fn is_accepted(state: State, contents: &Contents) -> bool
+    ensures { result ≡ state.instep || restart contents.now }
 {
     state.instep || turns::is_restart(contents)
 }
 
 // Contents that were read: accepted, or 35.
 #[tactic(auto, unfolding(crate::specs::Reading::taken))]
-fn taken(state: State, contents: Contents, bits: usize) -> Reading
-    ensures { result ≡ taken state contents bits }
+fn taken(state: State, contents: &Contents, bits: usize) -> Reading
+    ensures { result ≡ taken state contents.now bits }
 {
     if !is_accepted(state, contents) {
         return refused_at(35, bits, state);
@@ -85,7 +85,7 @@ fn taken(state: State, contents: Contents, bits: usize) -> Reading
         number: 0,
         place: 0,
         bits,
-        contents,
+        contents: *contents,
         state: turns::carried(before, contents),
     }
 }
@@ -99,12 +99,13 @@ pub fn read_bytes(state: State, s: &[u8]) -> Reading
     let end = 8 * s.len().min(1025);
     let payload = Bits { bytes: s, end };
     let before = read_from(state);
-    match payloads::read_payload(&payload, before, &lookups) {
-        Ok((contents, bits)) => {
+    let mut contents = payloads::no_contents();
+    match payloads::read_payload(&payload, before, &lookups, &mut contents) {
+        Ok(bits) => {
             if 7 < payload.left(bits) {
                 return refused_at(12, bits, state);
             }
-            taken(state, contents, bits)
+            taken(state, &contents, bits)
         }
         Err(refusal) => refused_at(refusal.number, refusal.place, state),
     }

@@ -30,12 +30,13 @@ fn refused(number: u8, state: State) -> Written
 }
 
 // Whether what is read from a payload are these contents.
-fn is_read_back(s: &Bits, state: State, contents: Contents) -> bool
-    ensures { result ≡ matches same_contents (payload state s.now.bytes.now 0 s.now.end) contents }
+fn is_read_back(s: &Bits, state: State, contents: &Contents) -> bool
+    ensures { result ≡ matches same_contents (payload state s.now.bytes.now 0 s.now.end) contents.now }
 {
     let lookups = tables::stereo_lookups();
-    match payloads::read_payload(s, state, &lookups) {
-        Ok((back, _)) => same_contents(back, contents),
+    let mut back = payloads::no_contents();
+    match payloads::read_payload(s, state, &lookups, &mut back) {
+        Ok(_) => same_contents(back, *contents),
         Err(_) => false,
     }
 }
@@ -49,19 +50,20 @@ fn bytes_for(bits: usize) -> usize
 }
 
 // Contents spelled from a state into a scratch array.
-fn put_spelled(w: &mut Scratch, state: State, contents: Contents)
+fn put_spelled(w: &mut Scratch, state: State, contents: &Contents)
     requires { Room 10952 w.old }
-    ensures { Wrote 10952 w.old (spelling state contents) w.new }
+    ensures { Wrote 10952 w.old (spelling state contents.now) w.new }
 {
     let words = tables::stereo_words();
-    put_contents(w, state, contents, &words);
+    put_contents(w, state, *contents, &words);
 }
 
 // Contents spelled from a state into a scratch array of zeros: whether they are read back.
-fn spell(w: &mut Scratch, state: State, contents: Contents) -> bool
+fn spell(w: &mut Scratch, state: State, contents: &Contents) -> bool
     requires { (w.old.bytes ≡ replicate 1536 0) × (w.old.at ≡ 0) }
-    ensures { (w.new.at ≡ total (spelling state contents)) × (w.new.at ≤ 10952) × (result ≡ can_write state contents)
-        × (w.new.bytes ≡ put_all (replicate 1536 0) 0 (spelling state contents)) }
+    ensures { (w.new.at ≡ total (spelling state contents.now)) × (w.new.at ≤ 10952)
+        × (result ≡ can_write state contents.now)
+        × (w.new.bytes ≡ put_all (replicate 1536 0) 0 (spelling state contents.now)) }
 {
     put_spelled(w, state, contents);
     let s = Bits {
@@ -72,9 +74,9 @@ fn spell(w: &mut Scratch, state: State, contents: Contents) -> bool
 }
 
 // Contents written from a sound state into a lent buffer.
-pub fn write_sound(out: &mut [u8], state: State, contents: Contents) -> Written
+pub fn write_sound(out: &mut [u8], state: State, contents: &Contents) -> Written
     requires { sound state ≡ true }
-    ensures { WritePromise out.old state contents result out.new }
+    ensures { WritePromise out.old state contents.now result out.new }
 {
     let before = stereo_reader::read_from(state);
     let mut scratch = Scratch {
@@ -108,5 +110,5 @@ pub fn write(out: &mut [u8], state: State, contents: Contents) -> Written
     if !states::is_sound(state) {
         return refused(4, state);
     }
-    write_sound(out, state, contents)
+    write_sound(out, state, &contents)
 }

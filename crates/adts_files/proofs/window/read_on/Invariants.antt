@@ -5,10 +5,11 @@ use mathlib.Core.Path.{◌≡◌}
 use lib.ListN.{length, take}
 use Rattle.adts_files.proofs.window.read_on.Given as goal
 
-abbrev pub invariant-loop-end : goal.invariant-loop-end
-invariant-loop-end g l =
-    (l.first ≤ l.end) × (l.end ≤ length l.buffer) × (length l.buffer ≡ length l.initial.buffer)
-    × (take l.first l.buffer ≡ take l.first l.initial.buffer)
+abbrev pub invariant-loop-w : goal.invariant-loop-w
+invariant-loop-w g l =
+    (l.w.start ≡ l.initial.w.start) × (l.initial.w.end ≤ l.w.end) × (l.w.end ≤ length l.buffer)
+    × (length l.buffer ≡ length l.initial.buffer)
+    × (take l.initial.w.end l.buffer ≡ take l.initial.w.end l.initial.buffer)
 
-abbrev pub decreases-loop-end : goal.decreases-loop-end
-decreases-loop-end g l = length l.buffer - l.end
+abbrev pub decreases-loop-w : goal.decreases-loop-w
+decreases-loop-w g l = length l.buffer - l.w.end

@@ -18,11 +18,11 @@ pub loop-e-preserved : goal.loop-e-preserved
 loop-e-preserved c =
     let a = c.args in
     let e = c.loop-e.e in
-    let iid : length a.iid ≡ 4 = search rules in
-    let icc : length a.icc ≡ 4 = search rules in
-    let phases : length a.phases ≡ 4 = search rules in
+    let iid : length a.iid.now ≡ 4 = search rules in
+    let icc : length a.icc.now ≡ 4 = search rules in
+    let phases : length a.phases.now ≡ 4 = search rules in
     let next = put_next a.out.now 22 _ (140 * e) _ 140 c.loop-e.invariant c.put_envelope.ensures (omega arith) in
-    let more = envelopes-more a.iid a.icc a.phases e _ _ _ (omega arith) (omega arith) (omega arith) in
+    let more = envelopes-more a.iid.now a.icc.now a.phases.now e _ _ _ (omega arith) (omega arith) (omega arith) in
     put_as a.out.now 22 _ _ _ _ next more (omega arith)
 
 pub returns : goal.returns

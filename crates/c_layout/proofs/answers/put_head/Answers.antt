@@ -21,9 +21,9 @@ returns c =
     let long : 22 ≤ length s = entry.requires in
     let at-4 : Put s 0 (word_of entry.args.bits) 4 word.put.new.out =
     (word.put.ensures ∙ rw word.word_of-word.ensures, refl) in
-    let at-10 = put_next s 0 _ 4 (header_bytes entry.args.contents.header) 6 at-4
+    let at-10 = put_next s 0 _ 4 (header_bytes entry.args.contents.now.header) 6 at-4
     (header.put-2.ensures ∙ rw header.header_bytes-header.ensures, refl) (omega arith) in
-    let at-16 = put_next s 0 _ 10 (frame_bytes entry.args.contents.frame) 6 at-10
+    let at-16 = put_next s 0 _ 10 (frame_bytes entry.args.contents.now.frame) 6 at-10
     (frame.put-3.ensures ∙ rw frame.frame_bytes-frame.ensures, refl) (omega arith) in
-    put_next s 0 _ 16 (extension_bytes entry.args.contents.extension) 6 at-16
+    put_next s 0 _ 16 (extension_bytes entry.args.contents.now.extension) 6 at-16
     (extension.put-4.ensures ∙ rw extension.extension_bytes-extension.ensures, refl) (omega arith)

@@ -6,11 +6,11 @@ use lib.ListN.{length}
 use Rattle.import.specs.InnerGathering.{FitsImage}
 use Rattle.import.proofs.gathering.gather.Given as goal
 
-abbrev pub invariant-loop-next : goal.invariant-loop-next
-invariant-loop-next g l =
+abbrev pub invariant-loop-g : goal.invariant-loop-g
+invariant-loop-g g l =
     (length l.buffer ≡ length l.initial.buffer) × (length l.image ≡ length l.initial.image) × (length l.ends ≡ length l.initial.ends)
     × FitsImage l.g
     × (l.w.start ≤ l.w.end) × (l.w.end ≤ length l.buffer)
 
-abbrev pub decreases-loop-next : goal.decreases-loop-next
-decreases-loop-next g l = 512 - l.g.count
+abbrev pub decreases-loop-g : goal.decreases-loop-g
+decreases-loop-g g l = 512 - l.g.count

@@ -5,7 +5,7 @@ use native.Mathlib.Omega.{arith}
 use borrow.Author.Rules.{rules}
 use lib.ListN.{take}
 use Rattle.bits.specs.Reader.{refused}
-use Rattle.bits.specs.InnerAnswers.{answer_of}
+use Rattle.bits.specs.InnerAnswers.{ended_answer}
 use Rattle.bits.proofs.PaddedLaws.{taken-set}
 use Rattle.stereo_indices.specs.Rows.{no_row, no_rows, record_after_rows, row, rows_of}
 use Rattle.stereo_indices.specs.declared.Record.{Record}
@@ -15,7 +15,7 @@ use Rattle.stereo_indices.proofs.rows.read_rows.Goals as goal
 
 pub loop-k-init : goal.loop-k-init
 unfolding no_rows
-loop-k-init c = rw c.no_rows-rows.ensures (record { listing = listing_start 4 no_row _ _ _ _ _; left = search rules })
+loop-k-init c = rw c.no_rows.ensures (record { listing = listing_start 4 no_row _ _ _ _ _; left = search rules })
 
 pub returns-in_err-row : goal.returns-in_err-row
 unfolding rows_of
@@ -23,7 +23,7 @@ returns-in_err-row c =
     let a = c.args in
     let l = c.loop-k in
     let i = c.in_err-row in
-    let e : answer_of c.from_residual.result ≡ refused i.field-0.0.number i.field-0.0.place = search rules in
+    let e : ended_answer c.from_residual.result l.rows ≡ refused i.field-0.0.number i.field-0.0.place = search rules in
     let q = ap (λ (h : Record). row a.kind a.mode h a.s.now.bytes.now l.place a.s.now.end) (sym l.invariant.left) ∙ sym i.ensures in
     e ∙ listing-refused _ _ _ _ _ _ _ c.loop-k-test.true l.invariant.listing q
 

@@ -14,7 +14,7 @@ returns c =
     let a = c.args in
     let p = c.put_spelled.ensures in
     let w = c.put_spelled.new.w in
-    let h : w.bytes ≡ put_all (replicate 1536 0) 0 (spelling a.state a.contents) = p.holds ∙ rw (c.requires.0, c.requires.1) in
-    let n : w.at ≡ total (spelling a.state a.contents) = omega (arith, p.ends, c.requires.1) in
+    let h : w.bytes ≡ put_all (replicate 1536 0) 0 (spelling a.state a.contents.now) = p.holds ∙ rw (c.requires.0, c.requires.1) in
+    let n : w.at ≡ total (spelling a.state a.contents.now) = omega (arith, p.ends, c.requires.1) in
     let m : w.at ≤ 10952 = omega (arith, p.ends, p.short, c.requires.1) in
-    (n, m, c.is_read_back.ensures ∙ spelled-can a.state a.contents h n m, h)
+    (n, m, c.is_read_back.ensures ∙ spelled-can a.state a.contents.now h n m, h)

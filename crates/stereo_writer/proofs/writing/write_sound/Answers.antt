@@ -37,7 +37,7 @@ returns-then-not-is_accepted c = (
 pub returns-then-out-bytes : goal.returns-then-out-bytes
 unfolding writing written_over
 returns-then-out-bytes c =
-    let short : leb (bytes_for (total (spelling c.read_from-before.result c.args.contents))) (length c.args.out.now) ≡ false =
+    let short : leb (bytes_for (total (spelling c.read_from-before.result c.args.contents.now))) (length c.args.out.now) ≡ false =
     rw (← c.spell.ensures.0, ← c.bytes_for-bytes.ensures) (lt-leb _ _ c.if-out-bytes.true) in (
       c.refused-then-out-bytes.ensures
           ∙ rw (
@@ -56,7 +56,7 @@ pub returns : goal.returns
 unfolding writing written_over
 returns c =
     let spelled = c.spell.ensures in
-    let ps = spelling c.read_from-before.result c.args.contents in
+    let ps = spelling c.read_from-before.result c.args.contents.now in
     let fits : leb (bytes_for (total ps)) (length c.args.out.now) ≡ true =
     rw (← spelled.0, ← c.bytes_for-bytes.ensures) (le-leb _ _ c.if-out-bytes.false) in
     let bytes = scratch-bytes 1536 ps (omega (arith, spelled.0, spelled.1)) in (
